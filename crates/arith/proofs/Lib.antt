@@ -1,0 +1,3 @@
+pub mod Words
+pub mod Signs
+pub mod Answers

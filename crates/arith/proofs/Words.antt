@@ -1,0 +1,72 @@
+-- What a word stands for, and which integers i64 holds: each definition by its halves.
+-- Assumes nothing.
+use mathlib.Core.Path.{_≡_, refl, sym, ap, _∙_}
+use mathlib.Core.Bool.{Bool, true, false}
+use mathlib.Core.Option.{some, none}
+use Prim.Native.Nat.{ℕ, suc, zero, _+_, _-_, _/_, _%_, _^_, _≤_, _<_}
+use native.Mathlib.Omega.{arith}
+use native.Mathlib.Decide.{decLe}
+use lib.IntN.{pos, negsuc, negℤ}
+use borrow.Author.Tests.{lt-ltb, le-ltb, le-leb, lt-leb}
+use Rattle.arith.specs.Word.{signed, asI64}
+use Rattle.arith.specs.Checked.{fitting}
+use Rattle.arith.specs.Sign.{signedBy}
+
+minus-pred : (m : ℕ) → 0 < m → negℤ (pos m) ≡ negsuc (m - 1)
+minus-pred zero h = absurd (omega arith)
+minus-pred (suc m) h = ap negsuc (omega arith)
+
+pub signed-low : (w : ℕ) → w < 2 ^ 63 → signed w ≡ pos w
+unfolding signed
+signed-low w h =
+    let r : w % 2 ^ 63 ≡ w = omega arith in
+    let q : w / 2 ^ 63 ≡ 0 = omega arith in
+    rw (r, q) (ap pos (omega arith))
+
+signed-negsuc : (w : ℕ) → 2 ^ 63 ≤ w → w < 2 ^ 64 → signed w ≡ negsuc (2 ^ 64 - 1 - w)
+unfolding signed
+signed-negsuc w l h =
+    let r : w % 2 ^ 63 ≡ w - 2 ^ 63 = omega arith in
+    let q : w / 2 ^ 63 ≡ 1 = omega arith in
+    let t : w - 2 ^ 63 < 2 ^ 63 = omega arith in
+    rw (r, q, lt-ltb (w - 2 ^ 63) (2 ^ 63) t) (ap negsuc (omega arith))
+
+-- the word of -m is 2^64 - m
+pub signed-high : (w m : ℕ) → 0 < m → m ≤ 2 ^ 63 → w + m ≡ 2 ^ 64 → signed w ≡ negℤ (pos m)
+signed-high w m p l e =
+    signed-negsuc w (omega arith) (omega arith) ∙ ap negsuc (omega arith) ∙ sym (minus-pred m p)
+
+-- the cast keeps the bits
+pub cast-signed : (x : ℕ) → x < 2 ^ 64 → signed x ≡ asI64 x
+unfolding asI64
+cast-signed x h = by-half (decLe (2 ^ 63) x)
+  where
+    by-half : Dec (2 ^ 63 ≤ x) → signed x ≡ asI64 x
+    by-half (yes l) = rw (le-ltb x (2 ^ 63) l, lt-ltb x (2 ^ 64) h) (signed-negsuc x l h ∙ ap negsuc (omega arith))
+    by-half (no l) = rw (lt-ltb x (2 ^ 63) (omega arith)) (signed-low x (omega arith))
+
+fits-negsuc : (n : ℕ) → n < 2 ^ 63 → fitting (negsuc n) ≡ some (negsuc n)
+unfolding fitting
+fits-negsuc n h = rw (le-leb n (2 ^ 63 - 1) (omega arith))
+
+over-negsuc : (n : ℕ) → 2 ^ 63 ≤ n → fitting (negsuc n) ≡ none
+unfolding fitting
+over-negsuc n h = rw (lt-leb n (2 ^ 63 - 1) (omega arith))
+
+pub fits-plus : (m : ℕ) → m < 2 ^ 63 → fitting (pos m) ≡ some (pos m)
+unfolding fitting
+fits-plus m h = rw (le-leb m (2 ^ 63 - 1) (omega arith))
+
+pub over-plus : (m : ℕ) → 2 ^ 63 ≤ m → fitting (pos m) ≡ none
+unfolding fitting
+over-plus m h = rw (lt-leb m (2 ^ 63 - 1) (omega arith))
+
+pub fits-minus : (m : ℕ) → 0 < m → m ≤ 2 ^ 63 → fitting (negℤ (pos m)) ≡ some (negℤ (pos m))
+fits-minus m p h = rw (minus-pred m p) (fits-negsuc (m - 1) (omega arith))
+
+pub over-minus : (m : ℕ) → 2 ^ 63 < m → fitting (negℤ (pos m)) ≡ none
+over-minus m h = rw (minus-pred m (omega arith)) (over-negsuc (m - 1) (omega arith))
+
+pub over-either : (s : Bool) (m : ℕ) → 2 ^ 63 < m → fitting (signedBy s m) ≡ none
+over-either true m h = over-minus m h
+over-either false m h = over-plus m (omega arith)

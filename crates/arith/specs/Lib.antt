@@ -1,0 +1,3 @@
+pub mod Word
+pub mod Checked
+pub mod Sign
