@@ -1,0 +1,100 @@
+-- The words of a block, and the one's complement sum: carries folded as they come or all at the end, the sum is the same.
+-- Assumes nothing.
+use mathlib.Core.Path.{_≡_, refl, sym, ap, ap₂, _∙_}
+use mathlib.Core.List.{List, [], _∷_}
+use Prim.Native.Nat.{ℕ, zero, suc, _+_, _-_, _*_, _/_, _%_, _≤_, _<_}
+use native.Mathlib.Omega.{arith}
+use native.Mathlib.Nat.{zero-add, add-zero, suc-add}
+use lib.ListN.{take, drop, getD}
+use lib.Dec.{lit<, lit≤}
+use lib.Seq.{drop-nil, take-nil, take-take, getD-take, getD-drop}
+use Rattle.record.proofs.Numbers.{one-there}
+use Rattle.record.specs.Bytes.{AreBytes, littleEndian}
+use Rattle.record.specs.Check.{words, once, onesSum, total, checksum, blockWords, blockCheck}
+
+twice-suc : (k : ℕ) → 2 * suc k ≡ suc (suc (2 * k))
+twice-suc k = omega arith
+
+pub word-there : (s : List ℕ) (k : ℕ) → getD (words s) k 0 ≡ 256 * littleEndian 1 (drop (2 * k) s) + littleEndian 1 (drop 1 (drop (2 * k) s))
+unfolding words littleEndian
+word-there [] k = rw (drop-nil (2 * k))
+word-there (a ∷ []) zero = omega arith
+word-there (a ∷ []) (suc k) = rw (twice-suc k)
+word-there (a ∷ b ∷ s) zero = omega arith
+word-there (a ∷ b ∷ s) (suc k) = rw (twice-suc k) (word-there s k)
+
+-- the words of the first 2 n bytes are the first n words
+pub words-take : (n : ℕ) (s : List ℕ) → words (take (2 * n) s) ≡ take n (words s)
+unfolding words
+words-take zero s = refl
+words-take (suc n) [] = rw (twice-suc n)
+words-take (suc n) (a ∷ []) = rw (twice-suc n, take-nil n)
+words-take (suc n) (a ∷ b ∷ s) = rw (twice-suc n) (ap (λ (t : List ℕ). (256 * a + b) ∷ t) (words-take n s))
+
+pub total-suc : (ws : List ℕ) (k : ℕ) → total (take (suc k) ws) ≡ total (take k ws) + getD ws k 0
+unfolding total
+total-suc [] zero = refl
+total-suc [] (suc k) = refl
+total-suc (w ∷ ws) zero = omega arith
+total-suc (w ∷ ws) (suc k) = rw (total-suc ws k) (omega arith)
+
+-- a word is below 2^16
+pub word-below : (s : List ℕ) → AreBytes s → (k : ℕ) → getD (words s) k 0 < 65536
+word-below s each k =
+    let high : littleEndian 1 (drop (2 * k) s) < 256 = rw (one-there (drop (2 * k) s), getD-drop (2 * k) s 0 0) (each (2 * k + 0)) in
+    let low : littleEndian 1 (drop 1 (drop (2 * k) s)) < 256 =
+      rw (one-there (drop 1 (drop (2 * k) s)), getD-drop 1 (drop (2 * k) s) 0 0, getD-drop (2 * k) s 1 0) (each (2 * k + 1)) in
+    rw (word-there s k) (omega arith)
+
+-- every carry folded: the number from 1 to 65,535 that is x but for a multiple of 65,535, and 0 only for 0
+folded : ℕ → ℕ
+folded zero = 0
+folded (suc x) = suc (x % 65535)
+
+folded-add : (w t : ℕ) → w < 65536 → once (w + folded t) ≡ folded (w + t)
+unfolding folded
+folded-add zero zero h = refl
+folded-add zero (suc t) h = rw (zero-add (suc (t % 65535)), zero-add (suc t)) (omega arith)
+folded-add (suc w) zero h = rw (add-zero (suc w)) (omega arith)
+folded-add (suc w) (suc t) h = rw (suc-add w (suc t)) (omega arith)
+
+folded-twice : (x : ℕ) → x ≤ 255 * 65535 → once (once x) ≡ folded x
+unfolding folded
+folded-twice zero h = refl
+folded-twice (suc x) h = omega arith
+
+folded-sum : (n : ℕ) (ws : List ℕ) → ((j : ℕ) → getD ws j 0 < 65536) → onesSum (take n ws) ≡ folded (total (take n ws))
+unfolding onesSum total folded
+folded-sum zero ws small = refl
+folded-sum (suc n) [] small = refl
+folded-sum (suc n) (w ∷ ws) small =
+    ap (λ (y : ℕ). once (w + y)) (folded-sum n ws (λ j. small (suc j))) ∙ folded-add w (total (take n ws)) (small 0)
+
+pub no-carry-left : (x : ℕ) → x ≤ 255 * 65535 → once (once x) ≤ 65535
+no-carry-left x h = omega arith
+
+module _ (book : List ℕ) (k : ℕ) where
+  -- the words of the rest of the book from block k on
+  abbrev pub rest : List ℕ
+  rest = words (drop (512 * k) book)
+
+  pub check-words : take 255 (blockWords book k) ≡ take 255 rest
+  unfolding blockWords
+  check-words = ap (take 255) (words-take 256 (drop (512 * k) book)) ∙ take-take 255 256 rest (lit≤ tt)
+
+  pub last-word : getD (blockWords book k) 255 0 ≡ getD rest 255 0
+  unfolding blockWords
+  last-word = ap (λ (ws : List ℕ). getD ws 255 0) (words-take 256 (drop (512 * k) book)) ∙ getD-take 256 rest 255 0 (lit< tt)
+
+  rest-below : AreBytes book → (j : ℕ) → getD rest j 0 < 65536
+  rest-below each =
+      word-below (drop (512 * k) book) (λ i. rw (getD-drop (512 * k) book i 0) (each (512 * k + i)))
+
+  pub check-late : AreBytes book → (sum : ℕ) → sum ≡ total (take 255 rest) → sum ≤ 255 * 65535 → 65535 - once (once sum) ≡ blockCheck book k
+  unfolding blockCheck checksum
+  check-late each sum e h =
+      ap (λ (y : ℕ). 65535 - y)
+      (folded-twice sum h
+      ∙ ap folded e
+      ∙ sym (folded-sum 255 rest (rest-below each))
+      ∙ ap onesSum (sym check-words))

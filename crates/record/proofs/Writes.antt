@@ -1,0 +1,82 @@
+-- What writing a record into a slice changes, and what it leaves.
+-- Assumes nothing.
+use mathlib.Core.Path.{_≡_, refl, sym, ap, _∙_}
+use mathlib.Core.Bool.{Bool, true, false, cond}
+use mathlib.Core.List.{List, _++_, append-assoc}
+use Prim.Native.Nat.{ℕ, zero, suc, _+_, _-_, _*_, _/_, _≤_, _<_}
+use native.Mathlib.Omega.{arith}
+use native.Mathlib.Decide.{decLe}
+use mathlib.Core.Logic.{_⊎_, ⊎-elim}
+use borrow.Author.Tests.{lt-ltb, le-ltb}
+use lib.ListN.{length, take, drop, getD, List·getD-append}
+use lib.Seq.{paste, take-all, length-paste, drop-paste, drop-at, length-take-le, getD-take, getD-drop}
+use Rattle.record.specs.Layout.{Within, decodeRecord, encodeRecord}
+use Rattle.record.specs.Write.{roomFor, writeAt, put}
+use Rattle.record.specs.declared.Record.{Record}
+use Rattle.record.proofs.Trips.{encode-length, decode-encode}
+
+-- a record below the room has its 24 bytes in the slice
+pub within-room : (most : ℕ) (l : List ℕ) (n : ℕ) → n < roomFor most l → 24 * n + 24 ≤ length l
+within-room most l n h = omega arith
+
+pub put-out : (most : ℕ) (l : List ℕ) (n : ℕ) (r : Record) → roomFor most l ≤ n → l ≡ put most l n r
+unfolding put
+put-out most l n r h = rw (le-ltb n (roomFor most l) h)
+
+-- the copy of all 24 bytes is the record written
+pub put-in : (most : ℕ) (l : List ℕ) (n : ℕ) (r : Record) → n < roomFor most l → paste l (24 * n) (encodeRecord r) 24 ≡ put most l n r
+unfolding put
+put-in most l n r h =
+    let short : length (encodeRecord r) ≤ 24 = omega (arith, encode-length r) in
+    rw (lt-ltb n (roomFor most l) h, encode-length r, take-all 24 (encodeRecord r) short)
+
+encode-long : (r : Record) → 24 ≤ length (encodeRecord r)
+encode-long r = omega (arith, encode-length r)
+
+-- a copy of n elements changes no other
+paste-elsewhere : (d : List ℕ) (at : ℕ) (s : List ℕ) (n i : ℕ) → at + n ≤ length d → n ≤ length s → (i < at) ⊎ (at + n ≤ i) → getD (paste d at s n) i 0 ≡ getD d i 0
+paste-elsewhere d at s n i fits long = ⊎-elim before behind
+  where
+    before : i < at → getD (paste d at s n) i 0 ≡ getD d i 0
+    before h =
+        let here : i < length (take at d) = rw (length-take-le at d (omega arith)) h in
+        rw (append-assoc (take at d)) (List·getD-append (take at d) (take n s ++ drop (at + n) d) 0 i here ∙ getD-take at d i 0 h)
+    behind : at + n ≤ i → getD (paste d at s n) i 0 ≡ getD d i 0
+    behind h =
+        let past : at + n + (i - (at + n)) ≡ i = omega arith in
+        let there : (e : List ℕ) → getD (drop (at + n) e) (i - (at + n)) 0 ≡ getD e i 0 =
+          λ e. getD-drop (at + n) e (i - (at + n)) 0 ∙ ap (λ (k : ℕ). getD e k 0) past in
+        sym (there (paste d at s n))
+        ∙ ap (λ (e : List ℕ). getD e (i - (at + n)) 0) (drop-paste d at s n (omega arith) long)
+        ∙ there d
+
+module _ (most : ℕ) (l : List ℕ) (n : ℕ) (r : Record) where
+  -- the slice keeps its length
+  pub put-length : length (put most l n r) ≡ length l
+  put-length = by-room (decLe (roomFor most l) n)
+    where
+      by-room : Dec (roomFor most l ≤ n) → length (put most l n r) ≡ length l
+      by-room (yes out) = ap length (sym (put-out most l n r out))
+      by-room (no there) =
+          let h : n < roomFor most l = omega arith in
+          ap length (sym (put-in most l n r h))
+          ∙ length-paste l (24 * n) (encodeRecord r) 24 (within-room most l n h) (encode-long r)
+
+  -- what was written is read back
+  pub put-there : Within r → n < roomFor most l → decodeRecord (drop (24 * n) (put most l n r)) ≡ r
+  unfolding put
+  put-there w h =
+      let whole : 24 * n ≤ length l = omega (arith, within-room most l n h) in
+      rw (lt-ltb n (roomFor most l) h, append-assoc (take (24 * n) l), drop-at (take (24 * n) l) _ (24 * n) (length-take-le (24 * n) l whole))
+      (decode-encode r (drop (24 * n + length (encodeRecord r)) l) w)
+
+  -- every byte outside the record's 24 is as it was
+  pub put-elsewhere : (i : ℕ) → (i < 24 * n) ⊎ (24 * n + 24 ≤ i) → getD (put most l n r) i 0 ≡ getD l i 0
+  put-elsewhere i outside = by-room (decLe (roomFor most l) n)
+    where
+      by-room : Dec (roomFor most l ≤ n) → getD (put most l n r) i 0 ≡ getD l i 0
+      by-room (yes out) = ap (λ (d : List ℕ). getD d i 0) (sym (put-out most l n r out))
+      by-room (no there) =
+          let h : n < roomFor most l = omega arith in
+          ap (λ (d : List ℕ). getD d i 0) (sym (put-in most l n r h))
+          ∙ paste-elsewhere l (24 * n) (encodeRecord r) 24 i (within-room most l n h) (encode-long r) outside

@@ -1,0 +1,34 @@
+// Writing records into a lent slice, one after the other from its front.
+
+ghost use mathlib.Core.Path.{_≡_};
+ghost use lib.Dec.{ltb};
+ghost use Rattle.record.specs.Write.{roomFor, put};
+
+use crate::Record;
+use crate::encode;
+
+// The number of records that dst has room for, where it may hold `most`.
+pub fn room(dst: &[u8], most: u16) -> u16
+    ensures { λ r. ⌜ r ≡ roomFor most (now (dst .entry)) ⌝ }
+{
+    let whole = dst.len() / 24;
+    if whole < most as usize { whole as u16 } else { most }
+}
+
+// Writes r as record n of dst, and says so; where n is past the room, nothing changes.
+pub fn put_record(dst: &mut [u8], most: u16, n: u16, r: Record) -> bool
+    ensures { λ x. ⌜ x ≡ ltb n (roomFor most (now (dst .entry))) ⌝ }
+    ensures { λ x. ⌜ now (dst .exit) ≡ put most (now (dst .entry)) n r ⌝ }
+{
+    if room(dst, most) <= n {
+        return false;
+    }
+    let bytes = encode(r);
+    let at = 24 * (n as usize);
+    let mut i: usize = 0;
+    while i < 24 {
+        dst[at + i] = bytes[i];
+        i += 1;
+    }
+    true
+}
