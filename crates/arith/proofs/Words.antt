@@ -6,9 +6,14 @@ use mathlib.Core.Option.{some, none}
 use Prim.Native.Nat.{ℕ, suc, zero, _+_, _-_, _/_, _%_, _^_, _≤_, _<_}
 use native.Mathlib.Omega.{arith}
 use native.Mathlib.Decide.{decLe}
+use lib.Dec.{leb→le, le→leb}
 use lib.IntN.{pos, negsuc, negℤ}
+use lib.Signed.{_≤ℤ_}
+use mir.Syntax.{w64}
+use mir.Val.{toZ}
+use mir.Facts.{toZ-pos}
 use borrow.Author.Tests.{lt-ltb, le-ltb, le-leb, lt-leb}
-use Rattle.arith.specs.Word.{signed, asI64}
+use Rattle.arith.specs.Word.{MIN, MAX, signed, asI64, word, WordAndBack, IntegerAndBack, SignedIsI64, SignedAsInRattle}
 use Rattle.arith.specs.Checked.{fitting}
 use Rattle.arith.specs.Sign.{signedBy}
 
@@ -36,14 +41,47 @@ pub signed-high : (w m : ℕ) → 0 < m → m ≤ 2 ^ 63 → w + m ≡ 2 ^ 64 �
 signed-high w m p l e =
     signed-negsuc w (omega arith) (omega arith) ∙ ap negsuc (omega arith) ∙ sym (minus-pred m p)
 
+-- what holds of the words of both halves holds of every word
+by-half : (P : ℕ → Type 0) → ((w : ℕ) → w < 2 ^ 63 → P w) → ((w : ℕ) → 2 ^ 63 ≤ w → w < 2 ^ 64 → P w) → (w : ℕ) → w < 2 ^ 64 → P w
+by-half P low high w h = go (decLe (2 ^ 63) w)
+  where
+    go : Dec (2 ^ 63 ≤ w) → P w
+    go (yes l) = high w l h
+    go (no l) = low w (omega arith)
+
 -- the cast keeps the bits
 pub cast-signed : (x : ℕ) → x < 2 ^ 64 → signed x ≡ asI64 x
 unfolding asI64
-cast-signed x h = by-half (decLe (2 ^ 63) x)
-  where
-    by-half : Dec (2 ^ 63 ≤ x) → signed x ≡ asI64 x
-    by-half (yes l) = rw (le-ltb x (2 ^ 63) l, lt-ltb x (2 ^ 64) h) (signed-negsuc x l h ∙ ap negsuc (omega arith))
-    by-half (no l) = rw (lt-ltb x (2 ^ 63) (omega arith)) (signed-low x (omega arith))
+cast-signed =
+    by-half (λ x. signed x ≡ asI64 x)
+    (λ x h. rw (lt-ltb x (2 ^ 63) h) (signed-low x h))
+    (λ x l h. rw (le-ltb x (2 ^ 63) l, lt-ltb x (2 ^ 64) h) (signed-negsuc x l h ∙ ap negsuc (omega arith)))
+
+pub word-and-back : WordAndBack
+unfolding word
+word-and-back =
+    by-half (λ w. word (signed w) ≡ w)
+    (λ w h. ap word (signed-low w h))
+    (λ w l h. ap word (signed-negsuc w l h) ∙ omega arith)
+
+pub integer-and-back : IntegerAndBack
+unfolding word
+integer-and-back (pos n) low high = signed-low n (omega (arith, leb→le n (2 ^ 63 - 1) (high .le)))
+integer-and-back (negsuc n) low high =
+    let h : n < 2 ^ 63 = omega (arith, leb→le n (2 ^ 63 - 1) (low .le)) in
+    signed-negsuc (2 ^ 64 - suc n) (omega arith) (omega arith) ∙ ap negsuc (omega arith)
+
+pub signed-is-i64 : SignedIsI64
+signed-is-i64 =
+    by-half (λ w. (MIN ≤ℤ signed w) × (signed w ≤ℤ MAX))
+    (λ w h. rw (signed-low w h) (record { le = tt }, record { le = le→leb w (2 ^ 63 - 1) (omega arith) }))
+    (λ w l h. rw (signed-negsuc w l h) (record { le = le→leb (2 ^ 64 - 1 - w) (2 ^ 63 - 1) (omega arith) }, record { le = tt }))
+
+pub signed-as-in-rattle : SignedAsInRattle
+signed-as-in-rattle =
+    by-half (λ w. signed w ≡ toZ w64 w)
+    (λ w h. signed-low w h ∙ sym (toZ-pos w64 h))
+    (λ w l h. rw (le-ltb w (2 ^ 63) l) (signed-negsuc w l h ∙ ap negsuc (omega arith)))
 
 fits-negsuc : (n : ℕ) → n < 2 ^ 63 → fitting (negsuc n) ≡ some (negsuc n)
 unfolding fitting

@@ -1,4 +1,5 @@
--- Checked arithmetic of i64, as the standard library documents `i64::checked_add` and its kin, over the integers.
+-- Checked arithmetic of i64, as the standard library documents `i64::checked_add` and its kin: an exact result over the integers, given
+-- where i64 holds it.
 -- Assumes nothing.
 use Prim.Native.Nat.{ℕ}
 use mathlib.Core.Bool.{Bool, cond, _&&_}
@@ -10,7 +11,7 @@ use Rattle.arith.specs.Word.{MIN, MAX, signed}
 use Rattle.arith.specs.declared.Checked.{Checked}
 use Rattle.arith.specs.declared.Checked.the-variants.{Value, None}
 
--- the exact result where i64 holds it: "returning None if overflow occurred"
+-- "returning None if overflow occurred"
 unfoldable pub fitting : ℤ → Option ℤ
 fitting z = cond (leZ MIN z && leZ z MAX) (some z) none
 
@@ -23,7 +24,8 @@ checkedSub x y = fitting (x -ℤ y)
 unfoldable pub checkedMul : ℤ → ℤ → Option ℤ
 checkedMul x y = fitting (x *ℤ y)
 
--- "returning None if rhs == 0 or the division results in overflow"; the quotient is rounded toward zero, so only MIN / -1 overflows
+-- "returning None if rhs == 0 or the division results in overflow". `quotZ` is rounded toward zero, as the Rust Reference says of `/`
+-- ("Integer division rounds towards zero"), so only MIN / -1 overflows.
 unfoldable pub checkedDiv : ℤ → ℤ → Option ℤ
 checkedDiv x y = cond (eqb (natAbs y) 0) none (fitting (quotZ x y))
 

@@ -1,10 +1,10 @@
 // Checked arithmetic of i64 and the cast from u64, on words of 64 bits: a word w stands for the integer `signed w`.
 
 ghost use mathlib.Core.Path.{_≡_};
+ghost use mathlib.Core.Bool.{not};
 ghost use lib.IntN.{_+ℤ_, negℤ};
 ghost use Rattle.arith.specs.Word.{signed, asI64};
 ghost use Rattle.arith.specs.Checked.{answer, fitting, checkedAdd, checkedSub, checkedMul, checkedDiv};
-ghost use mathlib.Core.Bool.{not};
 ghost use Rattle.arith.specs.Sign.{signedBy, value};
 
 // The answer of a checked operation: the 64 bits of the exact result, or none where i64 does not hold it.
@@ -25,6 +25,7 @@ const SIGN: u64 = 0x8000_0000_0000_0000;
 // All 64 bits set.
 const ONES: u64 = 0xffff_ffff_ffff_ffff;
 
+// The integer that a word stands for.
 fn split(w: u64) -> Signed
     ensures { λ r. ⌜ value r ≡ signed w ⌝ }
 {
@@ -41,7 +42,7 @@ fn split(w: u64) -> Signed
     }
 }
 
-// The word of an integer that i64 holds.
+// The answer for an exact result s.
 fn fit(s: Signed) -> Checked
     ensures { λ r. ⌜ answer r ≡ fitting (value s) ⌝ }
 {
@@ -60,6 +61,7 @@ fn fit(s: Signed) -> Checked
     Checked::None
 }
 
+// -s.
 fn negated(s: Signed) -> Signed
     ensures { λ r. ⌜ value r ≡ negℤ (value s) ⌝ }
 {
@@ -92,6 +94,7 @@ fn less(minus: bool, m: u64, n: u64) -> Checked
     fit(Signed { minus, size: m - n })
 }
 
+// p + q.
 fn sum(p: Signed, q: Signed) -> Checked
     ensures { λ r. ⌜ answer r ≡ fitting (value p +ℤ value q) ⌝ }
 {
@@ -102,21 +105,21 @@ fn sum(p: Signed, q: Signed) -> Checked
     }
 }
 
-// i64::checked_add.
+// i64::checked_add: a + b.
 pub fn checked_add(a: u64, b: u64) -> Checked
     ensures { λ r. ⌜ answer r ≡ checkedAdd (signed a) (signed b) ⌝ }
 {
     sum(split(a), split(b))
 }
 
-// i64::checked_sub.
+// i64::checked_sub: a - b.
 pub fn checked_sub(a: u64, b: u64) -> Checked
     ensures { λ r. ⌜ answer r ≡ checkedSub (signed a) (signed b) ⌝ }
 {
     sum(split(a), negated(split(b)))
 }
 
-// i64::checked_mul.
+// i64::checked_mul: a * b.
 pub fn checked_mul(a: u64, b: u64) -> Checked
     ensures { λ r. ⌜ answer r ≡ checkedMul (signed a) (signed b) ⌝ }
 {
@@ -136,7 +139,7 @@ pub fn checked_mul(a: u64, b: u64) -> Checked
     })
 }
 
-// i64::checked_div.
+// i64::checked_div: a / b, the fraction dropped; none for a zero b.
 pub fn checked_div(a: u64, b: u64) -> Checked
     ensures { λ r. ⌜ answer r ≡ checkedDiv (signed a) (signed b) ⌝ }
 {

@@ -1,4 +1,5 @@
 pub mod Numbers
-pub mod Sums
 pub mod Trips
+pub mod Sums
 pub mod Writes
+mod Examples

@@ -4,10 +4,14 @@ use mathlib.Core.Path.{_≡_, refl, sym, ap, ap₂, _∙_}
 use mathlib.Core.List.{List, [], _∷_, _++_}
 use Prim.Native.Nat.{ℕ, zero, suc, _+_, _*_, _/_, _%_, _^_, _≤_, _<_}
 use native.Mathlib.Omega.{arith}
-use native.Mathlib.Nat.{zero-add, suc-add, pow-suc, div-lt-iff-lt-mul}
-use lib.Dec.{lit<}
+use native.Mathlib.Nat.{zero-add, suc-add, pow-suc, one-le-pow, div-lt-iff-lt-mul}
+use lib.Dec.{lit<, lit≤}
 use lib.ListN.{length, take, drop, getD}
+use lib.Seq.{getD-drop}
 use Rattle.record.specs.Bytes.{AreBytes, littleEndian, littleBytes}
+
+behind : {b : ℕ} {s : List ℕ} → AreBytes (b ∷ s) → AreBytes s
+behind each = record { byte = λ i. each .byte (suc i) }
 
 pub none-there : (n : ℕ) → littleEndian n [] ≡ 0
 unfolding littleEndian
@@ -43,11 +47,42 @@ bytes-back zero s each h = refl
 bytes-back (suc n) [] each h = absurd (omega arith)
 bytes-back (suc n) (b ∷ s) each h =
     let x = littleEndian n s in
-    let byte : b < 256 = each 0 in
+    let byte : b < 256 = each .byte 0 in
     let low : (b + 256 * x) % 256 ≡ b = omega arith in
     let high : (b + 256 * x) / 256 ≡ x = omega arith in
-    rw (low, high) (ap (λ (t : List ℕ). b ∷ t) (bytes-back n s (λ i. each (suc i)) (omega arith)))
+    rw (low, high) (ap (λ (t : List ℕ). b ∷ t) (bytes-back n s (behind each) (omega arith)))
 
 -- two numbers of k bytes that stand one behind the other are one of k + k
 pub halves : (k : ℕ) (s t : List ℕ) {low high : ℕ} → low ≡ littleEndian k s → t ≡ drop k s → high ≡ littleEndian k t → low + 256 ^ k * high ≡ littleEndian (k + k) s
 halves k s t l d h = rw (l, h, d) (sym (parts k k s))
+
+-- n bytes make a number below 256^n
+pub number-below : (n : ℕ) (s : List ℕ) → AreBytes s → littleEndian n s < 256 ^ n
+unfolding littleEndian
+number-below zero s each = lit< tt
+number-below (suc n) [] each = one-le-pow (suc n) 256 (lit≤ tt)
+number-below (suc n) (b ∷ s) each =
+    let byte : b < 256 = each .byte 0 in
+    let less : littleEndian n s < 256 ^ n = number-below n s (behind each) in
+    rw (pow-suc 256 n) (omega arith)
+
+-- the bytes of a number are bytes, and so are two lists of them one behind the other
+byte-at : (n x i : ℕ) → getD (littleBytes n x) i 0 < 256
+unfolding littleBytes
+byte-at zero x i = lit< tt
+byte-at (suc n) x zero = omega arith
+byte-at (suc n) x (suc i) = byte-at n (x / 256) i
+
+pub are-bytes : (n x : ℕ) → AreBytes (littleBytes n x)
+are-bytes n x = record { byte = byte-at n x }
+
+pub bytes-append : {s t : List ℕ} → AreBytes s → AreBytes t → AreBytes (s ++ t)
+bytes-append {s} {t} p q = record { byte = go s p }
+  where
+    go : (s : List ℕ) → AreBytes s → (i : ℕ) → getD (s ++ t) i 0 < 256
+    go [] p i = q .byte i
+    go (b ∷ s) p zero = p .byte 0
+    go (b ∷ s) p (suc i) = go s (behind p) i
+
+pub bytes-drop : {s : List ℕ} (n : ℕ) → AreBytes s → AreBytes (drop n s)
+bytes-drop {s} n each = record { byte = λ i. rw (getD-drop n s i 0) (each .byte (n + i)) }

@@ -8,9 +8,9 @@ use native.Mathlib.Nat.{zero-add, add-zero, suc-add}
 use lib.ListN.{take, drop, getD}
 use lib.Dec.{lit<, lit≤}
 use lib.Seq.{drop-nil, take-nil, take-take, getD-take, getD-drop}
-use Rattle.record.proofs.Numbers.{one-there}
+use Rattle.record.proofs.Numbers.{one-there, bytes-drop}
 use Rattle.record.specs.Bytes.{AreBytes, littleEndian}
-use Rattle.record.specs.Check.{words, once, onesSum, total, checksum, blockWords, blockCheck}
+use Rattle.record.specs.Check.{words, once, onesSum, checksum, blockWords, blockCheck, total, FoldedLate}
 
 twice-suc : (k : ℕ) → 2 * suc k ≡ suc (suc (2 * k))
 twice-suc k = omega arith
@@ -41,9 +41,9 @@ total-suc (w ∷ ws) (suc k) = rw (total-suc ws k) (omega arith)
 -- a word is below 2^16
 pub word-below : (s : List ℕ) → AreBytes s → (k : ℕ) → getD (words s) k 0 < 65536
 word-below s each k =
-    let high : littleEndian 1 (drop (2 * k) s) < 256 = rw (one-there (drop (2 * k) s), getD-drop (2 * k) s 0 0) (each (2 * k + 0)) in
+    let high : littleEndian 1 (drop (2 * k) s) < 256 = rw (one-there (drop (2 * k) s), getD-drop (2 * k) s 0 0) (each .byte (2 * k + 0)) in
     let low : littleEndian 1 (drop 1 (drop (2 * k) s)) < 256 =
-      rw (one-there (drop 1 (drop (2 * k) s)), getD-drop 1 (drop (2 * k) s) 0 0, getD-drop (2 * k) s 1 0) (each (2 * k + 1)) in
+    rw (one-there (drop 1 (drop (2 * k) s)), getD-drop 1 (drop (2 * k) s) 0 0, getD-drop (2 * k) s 1 0) (each .byte (2 * k + 1)) in
     rw (word-there s k) (omega arith)
 
 -- every carry folded: the number from 1 to 65,535 that is x but for a multiple of 65,535, and 0 only for 0
@@ -70,8 +70,21 @@ folded-sum (suc n) [] small = refl
 folded-sum (suc n) (w ∷ ws) small =
     ap (λ (y : ℕ). once (w + y)) (folded-sum n ws (λ j. small (suc j))) ∙ folded-add w (total (take n ws)) (small 0)
 
-pub no-carry-left : (x : ℕ) → x ≤ 255 * 65535 → once (once x) ≤ 65535
-no-carry-left x h = omega arith
+total-below : (n : ℕ) (ws : List ℕ) → ((j : ℕ) → getD ws j 0 < 65536) → total (take n ws) ≤ n * 65535
+unfolding total
+total-below zero ws small = omega arith
+total-below (suc n) ws small =
+    let less : total (take n ws) ≤ n * 65535 = total-below n ws small in
+    let word : getD ws n 0 < 65536 = small n in
+    rw (total-suc ws n) (omega arith)
+
+pub folded-late : FoldedLate
+unfolding checksum
+folded-late ws small =
+    let bound : total (take 255 ws) ≤ 255 * 65535 = total-below 255 ws small in (
+      omega arith,
+      ap (λ (y : ℕ). 65535 - y) (folded-sum 255 ws small ∙ sym (folded-twice (total (take 255 ws)) bound)),
+    )
 
 module _ (book : List ℕ) (k : ℕ) where
   -- the words of the rest of the book from block k on
@@ -88,13 +101,12 @@ module _ (book : List ℕ) (k : ℕ) where
 
   rest-below : AreBytes book → (j : ℕ) → getD rest j 0 < 65536
   rest-below each =
-      word-below (drop (512 * k) book) (λ i. rw (getD-drop (512 * k) book i 0) (each (512 * k + i)))
+      word-below (drop (512 * k) book) (bytes-drop (512 * k) each)
 
-  pub check-late : AreBytes book → (sum : ℕ) → sum ≡ total (take 255 rest) → sum ≤ 255 * 65535 → 65535 - once (once sum) ≡ blockCheck book k
-  unfolding blockCheck checksum
-  check-late each sum e h =
-      ap (λ (y : ℕ). 65535 - y)
-      (folded-twice sum h
-      ∙ ap folded e
-      ∙ sym (folded-sum 255 rest (rest-below each))
-      ∙ ap onesSum (sym check-words))
+  -- the code's way: every word added up, two folds, the rest inverted
+  pub check-late : AreBytes book → (sum : ℕ) → sum ≡ total (take 255 rest) → 65535 - once (once sum) ≡ blockCheck book k
+  unfolding blockCheck
+  check-late each sum e =
+      ap (λ (x : ℕ). 65535 - once (once x)) e
+      ∙ sym (folded-late rest (rest-below each) .1)
+      ∙ ap checksum (sym check-words)

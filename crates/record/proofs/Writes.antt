@@ -9,9 +9,9 @@ use native.Mathlib.Decide.{decLe}
 use mathlib.Core.Logic.{_⊎_, ⊎-elim}
 use borrow.Author.Tests.{lt-ltb, le-ltb}
 use lib.ListN.{length, take, drop, getD, List·getD-append}
-use lib.Seq.{paste, take-all, length-paste, drop-paste, drop-at, length-take-le, getD-take, getD-drop}
+use lib.Seq.{paste, take-all, length-paste, drop-paste, drop-at, take-at, length-take-le, getD-take, getD-drop}
 use Rattle.record.specs.Layout.{Within, decodeRecord, encodeRecord}
-use Rattle.record.specs.Write.{roomFor, writeAt, put}
+use Rattle.record.specs.Write.{roomFor, put, PutWrites}
 use Rattle.record.specs.declared.Record.{Record}
 use Rattle.record.proofs.Trips.{encode-length, decode-encode}
 
@@ -41,18 +41,19 @@ paste-elsewhere d at s n i fits long = ⊎-elim before behind
     before h =
         let here : i < length (take at d) = rw (length-take-le at d (omega arith)) h in
         rw (append-assoc (take at d)) (List·getD-append (take at d) (take n s ++ drop (at + n) d) 0 i here ∙ getD-take at d i 0 h)
+
     behind : at + n ≤ i → getD (paste d at s n) i 0 ≡ getD d i 0
     behind h =
         let past : at + n + (i - (at + n)) ≡ i = omega arith in
         let there : (e : List ℕ) → getD (drop (at + n) e) (i - (at + n)) 0 ≡ getD e i 0 =
-          λ e. getD-drop (at + n) e (i - (at + n)) 0 ∙ ap (λ (k : ℕ). getD e k 0) past in
+        λ e. getD-drop (at + n) e (i - (at + n)) 0 ∙ ap (λ (k : ℕ). getD e k 0) past in
         sym (there (paste d at s n))
         ∙ ap (λ (e : List ℕ). getD e (i - (at + n)) 0) (drop-paste d at s n (omega arith) long)
         ∙ there d
 
 module _ (most : ℕ) (l : List ℕ) (n : ℕ) (r : Record) where
   -- the slice keeps its length
-  pub put-length : length (put most l n r) ≡ length l
+  put-length : length (put most l n r) ≡ length l
   put-length = by-room (decLe (roomFor most l) n)
     where
       by-room : Dec (roomFor most l ≤ n) → length (put most l n r) ≡ length l
@@ -62,16 +63,21 @@ module _ (most : ℕ) (l : List ℕ) (n : ℕ) (r : Record) where
           ap length (sym (put-in most l n r h))
           ∙ length-paste l (24 * n) (encodeRecord r) 24 (within-room most l n h) (encode-long r)
 
-  -- what was written is read back
-  pub put-there : Within r → n < roomFor most l → decodeRecord (drop (24 * n) (put most l n r)) ≡ r
+  -- from byte 24 n on stand the record's bytes, and then the rest as it was
+  put-from : n < roomFor most l → drop (24 * n) (put most l n r) ≡ encodeRecord r ++ drop (24 * n + length (encodeRecord r)) l
   unfolding put
-  put-there w h =
+  put-from h =
       let whole : 24 * n ≤ length l = omega (arith, within-room most l n h) in
       rw (lt-ltb n (roomFor most l) h, append-assoc (take (24 * n) l), drop-at (take (24 * n) l) _ (24 * n) (length-take-le (24 * n) l whole))
-      (decode-encode r (drop (24 * n + length (encodeRecord r)) l) w)
+
+  put-there : n < roomFor most l → take 24 (drop (24 * n) (put most l n r)) ≡ encodeRecord r
+  put-there h = ap (take 24) (put-from h) ∙ take-at (encodeRecord r) _ 24 (encode-length r)
+
+  put-read-back : Within r → n < roomFor most l → decodeRecord (drop (24 * n) (put most l n r)) ≡ r
+  put-read-back w h = ap decodeRecord (put-from h) ∙ decode-encode r _ w
 
   -- every byte outside the record's 24 is as it was
-  pub put-elsewhere : (i : ℕ) → (i < 24 * n) ⊎ (24 * n + 24 ≤ i) → getD (put most l n r) i 0 ≡ getD l i 0
+  put-elsewhere : (i : ℕ) → (i < 24 * n) ⊎ (24 * n + 24 ≤ i) → getD (put most l n r) i 0 ≡ getD l i 0
   put-elsewhere i outside = by-room (decLe (roomFor most l) n)
     where
       by-room : Dec (roomFor most l ≤ n) → getD (put most l n r) i 0 ≡ getD l i 0
@@ -80,3 +86,13 @@ module _ (most : ℕ) (l : List ℕ) (n : ℕ) (r : Record) where
           let h : n < roomFor most l = omega arith in
           ap (λ (d : List ℕ). getD d i 0) (sym (put-in most l n r h))
           ∙ paste-elsewhere l (24 * n) (encodeRecord r) 24 i (within-room most l n h) (encode-long r) outside
+
+pub put-writes : PutWrites
+put-writes most l n r =
+    record {
+      same-length = put-length most l n r;
+      there = put-there most l n r;
+      read-back = put-read-back most l n r;
+      elsewhere = put-elsewhere most l n r;
+      no-room = λ h. sym (put-out most l n r h);
+    }

@@ -5,8 +5,8 @@ use mathlib.Core.List.{List, [], _∷_}
 use lib.ListN.{getD}
 
 -- each element is a byte
-abbrev pub AreBytes : List ℕ → Type 0
-AreBytes s = (i : ℕ) → getD s i 0 < 256
+pub record AreBytes (s : List ℕ) : Type 0 where
+  pub byte : (i : ℕ) → getD s i 0 < 256
 
 -- the number in the first n bytes of s, least significant first; a byte past the end counts as 0
 unfoldable pub littleEndian : ℕ → List ℕ → ℕ

@@ -1,6 +1,7 @@
 -- The check of a block, from RFC 1071, "Computing the Internet Checksum".
 -- Assumes nothing.
-use Prim.Native.Nat.{ℕ, _+_, _-_, _*_, _/_, _%_}
+use Prim.Native.Nat.{ℕ, _+_, _-_, _*_, _/_, _%_, _<_}
+use mathlib.Core.Path.{_≡_}
 use mathlib.Core.Bool.{Bool}
 use mathlib.Core.List.{List, [], _∷_}
 use lib.Dec.{eqb}
@@ -37,7 +38,17 @@ blockCheck book k = checksum (take 255 (blockWords book k))
 unfoldable pub checkHolds : List ℕ → ℕ → Bool
 checkHolds book k = eqb (getD (blockWords book k) 255 0) (blockCheck book k)
 
--- the plain sum, which the code adds up before it folds any carry
+-- "add the first 255": the sum with its carries
 unfoldable pub total : List ℕ → ℕ
 total [] = 0
 total (w ∷ ws) = w + total ws
+
+-- What is claimed of document 01's way to the same check, "add the first 255, fold carries into 16 bits until none is left, invert all
+-- bits": of the sum of the first 255 words none is left after two folds, and the inverted rest is the checksum of RFC 1071. The proof is in
+-- proofs/Sums.antt.
+abbrev pub FoldedLate : Type 0
+FoldedLate =
+    (ws : List ℕ) →
+    ((k : ℕ) → getD ws k 0 < 65536) →
+    let folded : ℕ = once (once (total (take 255 ws))) in
+    (folded < 65536) × (checksum (take 255 ws) ≡ 65535 - folded)

@@ -16,7 +16,7 @@ decodeRecord s =
       b = littleEndian 2 (drop 4 s);
       c = littleEndian 2 (drop 6 s);
       v = littleEndian 8 (drop 8 s);
-      span = record { offset = littleEndian 4 (drop 16 s); len = littleEndian 4 (drop 20 s) }
+      span = record { offset = littleEndian 4 (drop 16 s); len = littleEndian 4 (drop 20 s) };
     }
 
 unfoldable pub encodeRecord : Record → List ℕ

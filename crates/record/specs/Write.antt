@@ -1,11 +1,13 @@
 -- Records written into a lent slice.
 -- Assumes nothing.
-use Prim.Native.Nat.{ℕ, _+_, _*_, _/_, min}
-use mathlib.Core.Bool.{Bool, cond}
+use Prim.Native.Nat.{ℕ, _+_, _*_, _/_, _≤_, _<_, min}
+use mathlib.Core.Path.{_≡_}
+use mathlib.Core.Bool.{cond}
+use mathlib.Core.Logic.{_⊎_}
 use mathlib.Core.List.{List, _++_}
 use lib.Dec.{ltb}
-use lib.ListN.{length, take, drop}
-use Rattle.record.specs.Layout.{encodeRecord}
+use lib.ListN.{length, take, drop, getD}
+use Rattle.record.specs.Layout.{Within, decodeRecord, encodeRecord}
 use Rattle.record.specs.declared.Record.{Record}
 
 -- the used limit of a slice in records: `most`, "or as many whole records as a shorter slice holds"
@@ -19,3 +21,15 @@ writeAt l i xs = take i l ++ xs ++ drop (i + length xs) l
 -- l with r as its record n; l itself where there is no room for that record
 unfoldable pub put : ℕ → List ℕ → ℕ → Record → List ℕ
 put most l n r = cond (ltb n (roomFor most l)) (writeAt l (24 * n) (encodeRecord r)) l
+
+-- What is claimed of a write: where there is room the 24 bytes from 24 n on are those of r, and in every case no other byte changes.
+-- The proof is in proofs/Writes.antt.
+pub record Written (most : ℕ) (l : List ℕ) (n : ℕ) (r : Record) (l′ : List ℕ) : Type 0 where
+  pub same-length : length l′ ≡ length l
+  pub there : n < roomFor most l → take 24 (drop (24 * n) l′) ≡ encodeRecord r
+  pub read-back : Within r → n < roomFor most l → decodeRecord (drop (24 * n) l′) ≡ r
+  pub elsewhere : (i : ℕ) → (i < 24 * n) ⊎ (24 * n + 24 ≤ i) → getD l′ i 0 ≡ getD l i 0
+  pub no-room : roomFor most l ≤ n → l′ ≡ l
+
+abbrev pub PutWrites : Type 0
+PutWrites = (most : ℕ) (l : List ℕ) (n : ℕ) (r : Record) → Written most l n r (put most l n r)

@@ -8,11 +8,7 @@ ghost use Rattle.record.specs.Bytes.{littleEndian};
 pub fn from(s: &[u8], at: usize) -> &[u8]
     ensures { λ r. ⌜ now r ≡ drop at (now (s .entry)) ⌝ }
 {
-    if at <= s.len() {
-        &s[at..]
-    } else {
-        &s[..0]
-    }
+    if at <= s.len() { &s[at..] } else { &s[..0] }
 }
 
 pub fn one(s: &[u8]) -> u8

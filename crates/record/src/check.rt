@@ -1,10 +1,10 @@
 // The check of a block: RFC 1071 over its first 255 big-endian words.
 
 ghost use mathlib.Core.Path.{_≡_};
-ghost use Prim.Native.Nat.{_+_, _%_, _/_, _*_, _≤_};
+ghost use Prim.Native.Nat.{_*_, _≤_};
 ghost use lib.ListN.{getD, take};
 ghost use Rattle.record.specs.Check.{words, total, once, blockCheck, checkHolds};
-
+use crate::BLOCK_BYTES;
 use crate::bytes;
 
 // Word k of s.
@@ -17,7 +17,7 @@ fn word_at(s: &[u8], k: u16) -> u16
     0x100 * high + low
 }
 
-// The sum of the first 255 words of s, no carry folded.
+// The sum of the first 255 words of s, carries and all.
 fn sum_words(s: &[u8]) -> u32
     ensures { λ r. ⌜ (r ≡ total (take 255 (words (now (s .entry))))) × (r ≤ 255 * 65535) ⌝ }
 {
@@ -37,11 +37,11 @@ fn fold(sum: u32) -> u32
     sum % 65536 + sum / 65536
 }
 
-// The check that a block should carry.
+// The check that a block should carry: the sum of its words but the last, carries folded in, inverted. After two folds no carry is left.
 pub fn block_check(book: &[u8], block: u16) -> u16
     ensures { λ r. ⌜ r ≡ blockCheck (now (book .entry)) block ⌝ }
 {
-    let sum = sum_words(bytes::from(book, 512 * (block as usize)));
+    let sum = sum_words(bytes::from(book, BLOCK_BYTES * (block as usize)));
     let first = fold(sum);
     let second = fold(first);
     (65535 - second) as u16
@@ -51,6 +51,6 @@ pub fn block_check(book: &[u8], block: u16) -> u16
 pub fn check_holds(book: &[u8], block: u16) -> bool
     ensures { λ r. ⌜ r ≡ checkHolds (now (book .entry)) block ⌝ }
 {
-    let last = word_at(bytes::from(book, 512 * (block as usize)), 255);
+    let last = word_at(bytes::from(book, BLOCK_BYTES * (block as usize)), 255);
     last == block_check(book, block)
 }

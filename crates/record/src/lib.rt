@@ -3,9 +3,19 @@
 ghost use mathlib.Core.Path.{_≡_};
 ghost use Rattle.record.specs.Layout.{decodeRecord, encodeRecord, recordAt};
 
-pub mod bytes;
+mod bytes;
 pub mod check;
+pub mod type_id;
 pub mod write;
+
+// A book is made of blocks. Behind its header a block has places for 21 records.
+const BLOCK_BYTES: usize = 512;
+
+const HEADER_BYTES: usize = 4;
+
+const BLOCK_RECORDS: u16 = 21;
+
+const RECORD_BYTES: usize = 24;
 
 // A byte-offset range in source text.
 pub struct Span {
@@ -24,8 +34,8 @@ pub struct Record {
     pub span: Span,
 }
 
-// The record that stands at the front of s. A byte past the end counts as 0.
-pub fn decode(s: &[u8]) -> Record
+// The record that stands at the front of s.
+fn decode(s: &[u8]) -> Record
     ensures { λ r. ⌜ r ≡ decodeRecord (now (s .entry)) ⌝ }
 {
     Record {
@@ -42,17 +52,20 @@ pub fn decode(s: &[u8]) -> Record
     }
 }
 
-// Record r of a book.
+// Record r of a book, at its place in its block. A byte past the end of the slice counts as 0.
 pub fn record_at(book: &[u8], r: u16) -> Record
     ensures { λ x. ⌜ x ≡ recordAt (now (book .entry)) r ⌝ }
 {
-    let block = (r / 21) as usize;
-    let place = (r % 21) as usize;
-    decode(bytes::from(book, 512 * block + 4 + 24 * place))
+    let block = (r / BLOCK_RECORDS) as usize;
+    let place = (r % BLOCK_RECORDS) as usize;
+    decode(bytes::from(
+        book,
+        BLOCK_BYTES * block + HEADER_BYTES + RECORD_BYTES * place,
+    ))
 }
 
 // The 24 bytes of a record.
-pub fn encode(r: Record) -> [u8; 24]
+fn encode(r: Record) -> [u8; RECORD_BYTES]
     ensures { λ x. ⌜ x ≡ encodeRecord r ⌝ }
 {
     let offset = r.span.offset;

@@ -3,19 +3,24 @@
 ghost use mathlib.Core.Path.{_≡_};
 ghost use lib.Dec.{ltb};
 ghost use Rattle.record.specs.Write.{roomFor, put};
-
+use crate::RECORD_BYTES;
 use crate::Record;
 use crate::encode;
 
-// The number of records that dst has room for, where it may hold `most`.
-pub fn room(dst: &[u8], most: u16) -> u16
+// The number of records that may be written to dst: `most`, or as many as it holds whole.
+fn room(dst: &[u8], most: u16) -> u16
     ensures { λ r. ⌜ r ≡ roomFor most (now (dst .entry)) ⌝ }
 {
-    let whole = dst.len() / 24;
-    if whole < most as usize { whole as u16 } else { most }
+    let whole = dst.len() / RECORD_BYTES;
+    if whole < most as usize {
+        whole as u16
+    } else {
+        most
+    }
 }
 
-// Writes r as record n of dst, and says so; where n is past the room, nothing changes.
+// Writes r as record n of dst and says so, if n is below both `most` and the number of whole records that dst holds.
+// Else nothing changes.
 pub fn put_record(dst: &mut [u8], most: u16, n: u16, r: Record) -> bool
     ensures { λ x. ⌜ x ≡ ltb n (roomFor most (now (dst .entry))) ⌝ }
     ensures { λ x. ⌜ now (dst .exit) ≡ put most (now (dst .entry)) n r ⌝ }
@@ -24,9 +29,9 @@ pub fn put_record(dst: &mut [u8], most: u16, n: u16, r: Record) -> bool
         return false;
     }
     let bytes = encode(r);
-    let at = 24 * (n as usize);
+    let at = RECORD_BYTES * (n as usize);
     let mut i: usize = 0;
-    while i < 24 {
+    while i < RECORD_BYTES {
         dst[at + i] = bytes[i];
         i += 1;
     }

@@ -1,36 +1,28 @@
+-- `arith::checked_div` meets its contract: the sizes' quotient with the sign of both.
+-- Assumes nothing.
 use mathlib.Core.Path.{_∙_}
-use Rattle.arith.proofs.Answers.{quotient-zero, quotient-is}
 use borrow.Author.Needs.{needs}
+use Rattle.arith.proofs.Answers.{quotient-zero, quotient-is}
 use Rattle.arith.proofs.checked_div.Statement.{statement}
 use Rattle.arith.proofs.checked_div.Tie as tie
-use Rattle.arith.proofs.checked_div.Reads as reads
-use Rattle.arith.proofs.checked_div.Lts as lts
-use Rattle.arith.proofs.fit.Reads as fit-reads
-use Rattle.arith.proofs.split.Reads as split-reads
 
--- src/lib.rt:130:9
 split-requires : tie.Need-split-requires
 split-requires c κs = search needs
 
--- src/lib.rt:131:9
 split-requires-2 : tie.Need-split-requires-2
 split-requires-2 c κs = search needs
 
--- src/lib.rt:134:9
 returns : tie.Need-returns
 returns c =
     quotient-zero (c .before .before .split .result) (c .before .split2 .result)
     (c .before .before .split .ensures) (c .before .split2 .ensures) (c .if1 .taken)
 
--- src/lib.rt:136:51
 div-t7 : tie.Need-div-t7
 div-t7 c = search needs
 
--- src/lib.rt:136:5
 fit-requires : tie.Need-fit-requires
 fit-requires c κs = search needs
 
--- src/lib.rt:127:1
 returns-2 : tie.Need-returns-2
 returns-2 c =
     let p = c .before .before .before .before .before .before in

@@ -1,35 +1,28 @@
+-- `arith::checked_mul` meets its contract: the sizes' product with the sign of both; a size past 64 bits is past i64 too.
+-- Assumes nothing.
 use Prim.Native.Nat.{_*_, _^_, _<_}
 use mathlib.Core.Path.{sym, _∙_}
+use borrow.Author.Needs.{needs}
+use Rattle.arith.proofs.Answers.{product-is, product-zero}
 use Rattle.arith.proofs.Signs.{differ, product-over, product-fits}
 use Rattle.arith.proofs.Words.{over-either}
-use Rattle.arith.proofs.Answers.{product-is, product-zero}
-use borrow.Author.Needs.{needs}
 use Rattle.arith.proofs.checked_mul.Statement.{statement}
 use Rattle.arith.proofs.checked_mul.Tie as tie
-use Rattle.arith.proofs.checked_mul.Reads as reads
-use Rattle.arith.proofs.checked_mul.Lts as lts
-use Rattle.arith.proofs.fit.Reads as fit-reads
-use Rattle.arith.proofs.split.Reads as split-reads
 
--- src/lib.rt:113:9
 split-requires : tie.Need-split-requires
 split-requires c κs = search needs
 
--- src/lib.rt:114:9
 split-requires-2 : tie.Need-split-requires-2
 split-requires-2 c κs = search needs
 
--- src/lib.rt:118:9
 returns : tie.Need-returns
 returns c =
     product-zero (c .before .before .split .result) (c .before .split2 .result)
     (c .before .before .split .ensures) (c .before .split2 .ensures) (c .if1 .taken)
 
--- src/lib.rt:120:8
 div-if2 : tie.Need-div-if2
 div-if2 c = search needs
 
--- src/lib.rt:121:9
 returns-2 : tie.Need-returns-2
 returns-2 c =
     let p = c .before .before .before .split .result in
@@ -38,7 +31,6 @@ returns-2 c =
     sym (over-either (differ (p .minus) (q .minus)) (p .size * q .size) over)
     ∙ product-is p q (c .before .before .before .split .ensures) (c .before .before .split2 .ensures)
 
--- src/lib.rt:123:51
 mul-t8 : tie.Need-mul-t8
 mul-t8 c =
     record {
@@ -49,11 +41,9 @@ mul-t8 c =
           (c .before .before .if2 .left);
     }
 
--- src/lib.rt:123:5
 fit-requires : tie.Need-fit-requires
 fit-requires c κs = search needs
 
--- src/lib.rt:110:1
 returns-3 : tie.Need-returns-3
 returns-3 c =
     let p = c .before .before .before .before .before .before in

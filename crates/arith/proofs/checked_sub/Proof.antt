@@ -1,33 +1,25 @@
+-- `arith::checked_sub` meets its contract: the sum of the first and the negated second.
+-- Assumes nothing.
 use mathlib.Core.Path.{_∙_, ap, ap₂}
 use lib.IntN.{ℤ, _+ℤ_}
+use borrow.Author.Needs.{needs}
 use Rattle.arith.specs.Checked.{checkedSub, fitting}
 use Rattle.arith.specs.Sign.{value}
-use borrow.Author.Needs.{needs}
 use Rattle.arith.proofs.checked_sub.Statement.{statement}
 use Rattle.arith.proofs.checked_sub.Tie as tie
-use Rattle.arith.proofs.checked_sub.Reads as reads
-use Rattle.arith.proofs.checked_sub.Lts as lts
-use Rattle.arith.proofs.negated.Reads as negated-reads
-use Rattle.arith.proofs.split.Reads as split-reads
-use Rattle.arith.proofs.sum.Reads as sum-reads
 
--- src/lib.rt:106:9
 split-requires : tie.Need-split-requires
 split-requires c κs = search needs
 
--- src/lib.rt:106:27
 split-requires-2 : tie.Need-split-requires-2
 split-requires-2 c κs = search needs
 
--- src/lib.rt:106:19
 negated-requires : tie.Need-negated-requires
 negated-requires c κs = search needs
 
--- src/lib.rt:106:5
 sum-requires : tie.Need-sum-requires
 sum-requires c κs = search needs
 
--- src/lib.rt:103:1
 returns : tie.Need-returns
 unfolding checkedSub
 returns c =

@@ -1,36 +1,27 @@
-use Rattle.arith.proofs.Answers.{zero-fits}
+-- `arith::fit` meets its contract: at each return the tests that led there say which law of `fitting` holds.
+-- Assumes nothing.
 use Prim.Native.Nat.{_+_, _-_, _^_, _≤_, _<_}
-use mathlib.Core.Path.{_≡_, refl, sym, ap, _∙_}
-use mathlib.Core.Bool.{Bool, true, false}
-use mathlib.Core.Option.{Option, some, none}
+use mathlib.Core.Option.{some}
+use mathlib.Core.Path.{_≡_, sym, ap, _∙_}
 use native.Mathlib.Omega.{arith}
-use Rattle.arith.specs.Word.{signed}
-use Rattle.arith.specs.Checked.{fitting}
-use Rattle.arith.specs.Sign.{signedBy}
-use Rattle.arith.proofs.Words.{signed-low, signed-high, fits-plus, over-plus, fits-minus, over-minus}
 use borrow.Author.Needs.{needs}
+use Rattle.arith.proofs.Answers.{zero-fits}
+use Rattle.arith.proofs.Words.{signed-low, signed-high, fits-plus, over-plus, fits-minus, over-minus}
 use Rattle.arith.proofs.fit.Statement.{statement}
 use Rattle.arith.proofs.fit.Tie as tie
-use Rattle.arith.proofs.fit.Reads as reads
-use Rattle.arith.proofs.fit.Lts as lts
 
--- src/lib.rt:43:9
 returns : tie.Need-returns
 returns c = rw (c .if1 .taken) (zero-fits (c .before .before .args .s .minus))
 
--- src/lib.rt:47:13
 returns-2 : tie.Need-returns-2
 returns-2 c = rw (c .before .before .if2 .taken) (sym (over-minus _ (c .if3 .taken)))
 
--- src/lib.rt:49:31
 sub-t4 : tie.Need-sub-t4
 sub-t4 c = search needs
 
--- src/lib.rt:49:31
 add-t5 : tie.Need-add-t5
 add-t5 c = search needs
 
--- src/lib.rt:49:9
 returns-3 : tie.Need-returns-3
 returns-3 c =
     let m = c .before .before .before .before .before .before .args .s .size in
@@ -40,14 +31,12 @@ returns-3 c =
     rw (c .before .before .before .if2 .taken)
     (ap some (signed-high (2 ^ 64 - 1 - m + 1) m p h whole) ∙ sym (fits-minus m p h))
 
--- src/lib.rt:52:9
 returns-4 : tie.Need-returns-4
 returns-4 c =
     let m = c .before .before .before .before .before .args .s .size in
     rw (c .before .before .if2 .left)
     (ap some (signed-low m (c .if4 .taken)) ∙ sym (fits-plus m (c .if4 .taken)))
 
--- src/lib.rt:39:1
 returns-5 : tie.Need-returns-5
 returns-5 c = rw (c .before .before .if2 .left) (sym (over-plus _ (c .if4 .left)))
 

@@ -1,32 +1,26 @@
+-- `arith::less` meets its contract: of integers of two signs the larger size keeps its sign.
+-- Assumes nothing.
 use mathlib.Core.Path.{sym, ap, _∙_}
+use borrow.Author.Needs.{needs}
 use Rattle.arith.specs.Checked.{fitting}
 use Rattle.arith.proofs.Signs.{add-other-lt, add-other-le}
-use borrow.Author.Needs.{needs}
 use Rattle.arith.proofs.less.Statement.{statement}
 use Rattle.arith.proofs.less.Tie as tie
-use Rattle.arith.proofs.less.Reads as reads
-use Rattle.arith.proofs.less.Lts as lts
-use Rattle.arith.proofs.fit.Reads as fit-reads
 
--- src/lib.rt:80:50
 sub-t6 : tie.Need-sub-t6
 sub-t6 c = search needs
 
--- src/lib.rt:80:9
 fit-requires : tie.Need-fit-requires
 fit-requires c κs = search needs
 
--- src/lib.rt:80:9
 returns : tie.Need-returns
 returns c =
     let a = c .before .before .args in
     c .fit .ensures ∙ ap fitting (sym (add-other-lt (a .minus) (a .m) (a .n) (c .before .if1 .taken)))
 
--- src/lib.rt:82:5
 fit-requires-2 : tie.Need-fit-requires-2
 fit-requires-2 c κs = search needs
 
--- src/lib.rt:76:1
 returns-2 : tie.Need-returns-2
 returns-2 c =
     let a = c .before .before .args in

@@ -1,27 +1,22 @@
+-- `arith::split` meets its contract: each half of the words by its own law.
+-- Assumes nothing.
 use Prim.Native.Nat.{_+_, _-_, _^_, _≤_, _<_}
-use mathlib.Core.Path.{_≡_}
-use mathlib.Core.Path.{sym}
+use mathlib.Core.Path.{_≡_, sym}
 use native.Mathlib.Omega.{arith}
-use Rattle.arith.proofs.Words.{signed-low, signed-high}
 use borrow.Author.Needs.{needs}
+use Rattle.arith.proofs.Words.{signed-low, signed-high}
 use Rattle.arith.proofs.split.Statement.{statement}
 use Rattle.arith.proofs.split.Tie as tie
-use Rattle.arith.proofs.split.Reads as reads
-use Rattle.arith.proofs.split.Lts as lts
 
--- src/lib.rt:34:37
 sub-t4 : tie.Need-sub-t4
 sub-t4 c = search needs
 
--- src/lib.rt:34:37
 add-t5 : tie.Need-add-t5
 add-t5 c = search needs
 
--- src/lib.rt:28:1
 returns : tie.Need-returns
 returns c = sym (signed-low (c .before .args .w) (c .if1 .taken))
 
--- src/lib.rt:28:1
 returns-2 : tie.Need-returns-2
 returns-2 c =
     let w = c .before .args .w in

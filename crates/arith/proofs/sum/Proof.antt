@@ -1,26 +1,21 @@
-use mathlib.Core.Path.{ap, _∙_}
+-- `arith::sum` meets its contract: the two signs are the same or opposite, and `more` or `less` has the sum.
+-- Assumes nothing.
 use mathlib.Core.Bool.{Bool}
+use mathlib.Core.Path.{ap, _∙_}
 use lib.IntN.{_+ℤ_}
+use borrow.Author.Needs.{needs}
 use Rattle.arith.specs.Checked.{fitting}
 use Rattle.arith.specs.Sign.{signedBy, value}
 use Rattle.arith.proofs.Signs.{same-sign, other-sign}
-use borrow.Author.Needs.{needs}
 use Rattle.arith.proofs.sum.Statement.{statement}
 use Rattle.arith.proofs.sum.Tie as tie
-use Rattle.arith.proofs.sum.Reads as reads
-use Rattle.arith.proofs.sum.Lts as lts
-use Rattle.arith.proofs.less.Reads as less-reads
-use Rattle.arith.proofs.more.Reads as more-reads
 
--- src/lib.rt:89:9
 more-requires : tie.Need-more-requires
 more-requires c κs = search needs
 
--- src/lib.rt:91:9
 less-requires : tie.Need-less-requires
 less-requires c κs = search needs
 
--- src/lib.rt:85:1
 returns : tie.Need-returns
 returns c =
     let p = c .before .before .before .before .args .p in
@@ -28,7 +23,6 @@ returns c =
     c .more .ensures
     ∙ ap (λ (s : Bool). fitting (value p +ℤ signedBy s (q .size))) (same-sign (p .minus) (q .minus) (c .before .if1 .taken))
 
--- src/lib.rt:85:1
 returns-2 : tie.Need-returns-2
 returns-2 c =
     let p = c .before .before .before .before .args .p in

@@ -1,104 +1,81 @@
-use mathlib.Core.Path.{_≡_}
+-- `record::encode` meets its contract: the divisions by powers of 256 are those of `littleBytes`, one by one.
+-- Assumes nothing.
 use Prim.Native.Nat.{_%_}
+use mathlib.Core.Path.{_≡_}
+use native.Mathlib.Nat.{div-div-eq-div-mul}
 use native.Mathlib.Omega.{arith}
-use native.Mathlib.Nat.{div-div-eq-div-mul, mod-eq-of-lt}
+use borrow.Author.Needs.{needs}
 use Rattle.record.specs.Bytes.{littleBytes}
 use Rattle.record.specs.Layout.{encodeRecord}
-use borrow.Author.Needs.{needs}
 use Rattle.record.proofs.encode.Statement.{statement}
 use Rattle.record.proofs.encode.Tie as tie
-use Rattle.record.proofs.encode.Reads as reads
-use Rattle.record.proofs.encode.Lts as lts
 
--- src/lib.rt:63:9
 cast-t5 : tie.Need-cast-t5
 cast-t5 c = search needs
 
--- src/lib.rt:64:9
 cast-t8 : tie.Need-cast-t8
 cast-t8 c = search needs
 
--- src/lib.rt:65:9
 cast-t10 : tie.Need-cast-t10
 cast-t10 c = search needs
 
--- src/lib.rt:66:9
 cast-t13 : tie.Need-cast-t13
 cast-t13 c = search needs
 
--- src/lib.rt:67:9
 cast-t15 : tie.Need-cast-t15
 cast-t15 c = search needs
 
--- src/lib.rt:68:9
 cast-t18 : tie.Need-cast-t18
 cast-t18 c = search needs
 
--- src/lib.rt:69:9
 cast-t20 : tie.Need-cast-t20
 cast-t20 c = search needs
 
--- src/lib.rt:70:9
 cast-t23 : tie.Need-cast-t23
 cast-t23 c = search needs
 
--- src/lib.rt:71:9
 cast-t26 : tie.Need-cast-t26
 cast-t26 c = search needs
 
--- src/lib.rt:72:9
 cast-t29 : tie.Need-cast-t29
 cast-t29 c = search needs
 
--- src/lib.rt:73:9
 cast-t32 : tie.Need-cast-t32
 cast-t32 c = search needs
 
--- src/lib.rt:74:9
 cast-t35 : tie.Need-cast-t35
 cast-t35 c = search needs
 
--- src/lib.rt:75:9
 cast-t38 : tie.Need-cast-t38
 cast-t38 c = search needs
 
--- src/lib.rt:76:9
 cast-t41 : tie.Need-cast-t41
 cast-t41 c = search needs
 
--- src/lib.rt:77:9
 cast-t43 : tie.Need-cast-t43
 cast-t43 c = search needs
 
--- src/lib.rt:78:9
 cast-t46 : tie.Need-cast-t46
 cast-t46 c = search needs
 
--- src/lib.rt:79:9
 cast-t49 : tie.Need-cast-t49
 cast-t49 c = search needs
 
--- src/lib.rt:80:9
 cast-t52 : tie.Need-cast-t52
 cast-t52 c = search needs
 
--- src/lib.rt:81:9
 cast-t54 : tie.Need-cast-t54
 cast-t54 c = search needs
 
--- src/lib.rt:82:9
 cast-t57 : tie.Need-cast-t57
 cast-t57 c = search needs
 
--- src/lib.rt:83:9
 cast-t60 : tie.Need-cast-t60
 cast-t60 c = search needs
 
--- src/lib.rt:84:9
 cast-t63 : tie.Need-cast-t63
 cast-t63 c = search needs
 
--- src/lib.rt:55:1
 returns : tie.Need-returns
 unfolding encodeRecord littleBytes
 returns c =

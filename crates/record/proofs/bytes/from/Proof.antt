@@ -1,39 +1,33 @@
-use mathlib.Core.Path.{sym}
+-- `record::bytes::from` meets its contract: the part from the place on is all that `drop` leaves.
+-- Assumes nothing.
 use Prim.Native.Nat.{_-_, _≤_}
+use mathlib.Core.Path.{sym}
 use native.Mathlib.Omega.{arith}
-use denote.Ref.{now}
 use lib.ListN.{length, drop, length-drop, drop-of-length-le}
 use lib.Seq.{take-all}
+use denote.Ref.{now}
 use borrow.Author.Needs.{needs}
 use Rattle.record.proofs.bytes.from.Statement.{statement}
 use Rattle.record.proofs.bytes.from.Tie as tie
-use Rattle.record.proofs.bytes.from.Reads as reads
-use Rattle.record.proofs.bytes.from.Lts as lts
 
--- src/bytes.rt:12:9
 sub-result : tie.Need-sub-result
 sub-result c = search needs
 
--- src/bytes.rt:12:9
 part-result-start : tie.Need-part-result-start
 part-result-start c = search needs
 
--- src/bytes.rt:12:9
 part-result-end : tie.Need-part-result-end
 part-result-end c = search needs
 
--- src/bytes.rt:14:9
 slice-aggregate-result : tie.Need-slice-aggregate-result
 slice-aggregate-result c = search needs
 
--- src/bytes.rt:8:1
 returns : tie.Need-returns
 returns c =
     let a = c .before .before .args in
     take-all (length (now (a .s)) - a .at) (drop (a .at) (now (a .s)))
     (simp length-drop (omega arith))
 
--- src/bytes.rt:8:1
 returns-2 : tie.Need-returns-2
 returns-2 c =
     let a = c .before .before .args in

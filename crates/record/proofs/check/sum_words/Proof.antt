@@ -1,17 +1,16 @@
+-- `record::check::sum_words` meets its contract: the loop's invariant: the sum of the first k words, at most 65,535 for each.
+-- Assumes nothing.
 use Prim.Native.Nat.{ℕ, _-_, _*_, _≤_}
-use native.Mathlib.Omega.{arith}
-use native.Mathlib.Numerals.{add-one}
 use mathlib.Core.Path.{_≡_, ap, _∙_}
-use borrow.Author.Needs.{needs}
-use denote.Ref.{now}
+use native.Mathlib.Numerals.{add-one}
+use native.Mathlib.Omega.{arith}
 use lib.ListN.{take}
+use denote.Ref.{now}
+use borrow.Author.Needs.{needs}
 use Rattle.record.specs.Check.{words, total}
 use Rattle.record.proofs.Sums.{total-suc}
 use Rattle.record.proofs.check.sum_words.Statement.{statement}
 use Rattle.record.proofs.check.sum_words.Tie as tie
-use Rattle.record.proofs.check.sum_words.Reads as reads
-use Rattle.record.proofs.check.sum_words.Lts as lts
-use Rattle.record.proofs.check.word_at.Reads as word-at-reads
 
 abbrev Inv-loop : tie.InvT-loop
 Inv-loop s sum₀ k₀ sum k = (k ≤ 255) × ((sum ≡ total (take k (words s))) × (sum ≤ 65535 * k))
@@ -19,38 +18,30 @@ Inv-loop s sum₀ k₀ sum k = (k ≤ 255) × ((sum ≡ total (take k (words s))
 abbrev μ-loop : tie.MeasureT-loop
 μ-loop s sum₀ k₀ sum k = 255 - k
 
--- src/check.rt:26:5
 loop-holds : tie.Need-loop-holds Inv-loop μ-loop
 unfolding total
 loop-holds c = search needs
 
--- src/check.rt:27:16
 word-at-requires : tie.Need-word-at-requires Inv-loop μ-loop
 word-at-requires c κs = search needs
 
--- src/check.rt:27:16
 cast-sum : tie.Need-cast-sum Inv-loop μ-loop
 cast-sum c = search needs
 
--- src/check.rt:27:9
 add-sum : tie.Need-add-sum Inv-loop μ-loop
 add-sum c = search needs
 
--- src/check.rt:28:9
 add-k : tie.Need-add-k Inv-loop μ-loop
 add-k c = search needs
 
--- src/check.rt:26:5
 loop-less : tie.Need-loop-less Inv-loop μ-loop
 loop-less c = search needs
 
--- src/check.rt:26:5
 loop-again : tie.Need-loop-again Inv-loop μ-loop
 loop-again c =
     let l = c .before .before .loop in
     (search needs, (rw (add-one (l .k), total-suc (words (now (c .before .before .before .before .args .s))) (l .k)) (cc), search needs))
 
--- src/check.rt:21:1
 returns : tie.Need-returns Inv-loop μ-loop
 returns c =
     let l = c .before .loop in
