@@ -1,16 +1,15 @@
 -- The checked product and quotient, from the signs and sizes of the two operands.
 -- Assumes nothing.
-use mathlib.Core.Path.{_≡_, refl, sym, ap, ap₂, _∙_}
-use mathlib.Core.Bool.{Bool, true, false}
-use mathlib.Core.Option.{Option, some, none}
 use Prim.Native.Nat.{ℕ, _*_, _/_}
+use mathlib.Core.Bool.{Bool, true, false}
+use mathlib.Core.Option.{some, none}
+use mathlib.Core.Path.{_≡_, refl, sym, ap, ap₂, _∙_}
 use native.Mathlib.Nat.{mul-zero}
+use lib.IntN.{ℤ}
 use borrow.Author.Tests.{eq-eqb, ne-eqb}
-use lib.IntN.{ℤ, natAbs}
-use lib.Signed.{quotZ}
-use Rattle.arith.specs.Word.{signed}
 use Rattle.arith.specs.Checked.{fitting, checkedMul, checkedDiv}
 use Rattle.arith.specs.Sign.{signedBy, value}
+use Rattle.arith.specs.Word.{signed}
 use Rattle.arith.specs.declared.Signed.{Signed}
 use Rattle.arith.proofs.Signs.{differ, size-signed, mul-signed, quot-signed}
 

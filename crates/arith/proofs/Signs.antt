@@ -1,13 +1,13 @@
 -- Negation, sum, product and quotient of two integers, by their signs and sizes.
 -- Assumes nothing.
-use mathlib.Core.Path.{_≡_, refl, sym, ap, _∙_}
-use mathlib.Core.Bool.{Bool, true, false, not, cond, Bool·beq}
 use Prim.Native.Nat.{ℕ, suc, zero, _+_, _-_, _*_, _/_, _^_, _≤_, _<_}
-use native.Mathlib.Omega.{arith}
+use mathlib.Core.Bool.{Bool, true, false, not, Bool·beq}
+use mathlib.Core.Path.{_≡_, refl, sym, ap, _∙_}
 use native.Mathlib.Nat.{zero-mul, mul-zero, zero-div, div-lt-iff-lt-mul, le-div-iff-mul-le}
-use borrow.Author.Tests.{lt-ltb, le-ltb}
-use lib.IntN.{ℤ, pos, negsuc, negℤ, _+ℤ_, _*ℤ_, negℤ-+ℤ, negℤ-negℤ, +ℤ-comm, natAbs}
+use native.Mathlib.Omega.{arith}
+use lib.IntN.{ℤ, pos, negℤ, _+ℤ_, _*ℤ_, negℤ-+ℤ, negℤ-negℤ, +ℤ-comm, natAbs}
 use lib.Signed.{quotZ}
+use borrow.Author.Tests.{le-ltb}
 use Rattle.arith.specs.Sign.{signedBy}
 
 -- two signs make a minus where they differ

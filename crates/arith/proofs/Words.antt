@@ -1,21 +1,21 @@
 -- What a word stands for, and which integers i64 holds: each definition by its halves.
 -- Assumes nothing.
-use mathlib.Core.Path.{_≡_, refl, sym, ap, _∙_}
+use Prim.Native.Nat.{ℕ, suc, zero, _+_, _-_, _/_, _%_, _^_, _≤_, _<_}
 use mathlib.Core.Bool.{Bool, true, false}
 use mathlib.Core.Option.{some, none}
-use Prim.Native.Nat.{ℕ, suc, zero, _+_, _-_, _/_, _%_, _^_, _≤_, _<_}
-use native.Mathlib.Omega.{arith}
+use mathlib.Core.Path.{_≡_, sym, ap, _∙_}
 use native.Mathlib.Decide.{decLe}
+use native.Mathlib.Omega.{arith}
 use lib.Dec.{leb→le, le→leb}
 use lib.IntN.{pos, negsuc, negℤ}
 use lib.Signed.{_≤ℤ_}
+use mir.Facts.{toZ-pos}
 use mir.Syntax.{w64}
 use mir.Val.{toZ}
-use mir.Facts.{toZ-pos}
 use borrow.Author.Tests.{lt-ltb, le-ltb, le-leb, lt-leb}
-use Rattle.arith.specs.Word.{MIN, MAX, signed, asI64, word, WordAndBack, IntegerAndBack, SignedIsI64, SignedAsInRattle}
 use Rattle.arith.specs.Checked.{fitting}
 use Rattle.arith.specs.Sign.{signedBy}
+use Rattle.arith.specs.Word.{MIN, MAX, signed, asI64, word, WordAndBack, IntegerAndBack, SignedIsI64, SignedAsInRattle}
 
 minus-pred : (m : ℕ) → 0 < m → negℤ (pos m) ≡ negsuc (m - 1)
 minus-pred zero h = absurd (omega arith)
@@ -42,7 +42,13 @@ signed-high w m p l e =
     signed-negsuc w (omega arith) (omega arith) ∙ ap negsuc (omega arith) ∙ sym (minus-pred m p)
 
 -- what holds of the words of both halves holds of every word
-by-half : (P : ℕ → Type 0) → ((w : ℕ) → w < 2 ^ 63 → P w) → ((w : ℕ) → 2 ^ 63 ≤ w → w < 2 ^ 64 → P w) → (w : ℕ) → w < 2 ^ 64 → P w
+by-half :
+    (P : ℕ → Type 0) →
+    ((w : ℕ) → w < 2 ^ 63 → P w) →
+    ((w : ℕ) → 2 ^ 63 ≤ w → w < 2 ^ 64 → P w) →
+    (w : ℕ) →
+    w < 2 ^ 64 →
+    P w
 by-half P low high w h = go (decLe (2 ^ 63) w)
   where
     go : Dec (2 ^ 63 ≤ w) → P w

@@ -1,8 +1,7 @@
 -- Checked arithmetic of i64, as the standard library documents `i64::checked_add` and its kin: an exact result over the integers, given
 -- where i64 holds it.
 -- Assumes nothing.
-use Prim.Native.Nat.{ℕ}
-use mathlib.Core.Bool.{Bool, cond, _&&_}
+use mathlib.Core.Bool.{cond, _&&_}
 use mathlib.Core.Option.{Option, some, none}
 use lib.Dec.{eqb}
 use lib.IntN.{ℤ, _+ℤ_, _-ℤ_, _*ℤ_, natAbs}

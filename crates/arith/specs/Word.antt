@@ -1,8 +1,8 @@
 -- The integer type i64, and the integer that a word of 64 bits stands for when it is read as one.
 -- Assumes nothing.
 use Prim.Native.Nat.{ℕ, suc, _-_, _*_, _/_, _%_, _^_, _<_}
-use mathlib.Core.Path.{_≡_}
 use mathlib.Core.Bool.{cond}
+use mathlib.Core.Path.{_≡_}
 use lib.Dec.{ltb}
 use lib.IntN.{ℤ, pos, negsuc, _-ℤ_}
 use lib.Signed.{_≤ℤ_}

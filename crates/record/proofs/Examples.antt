@@ -1,12 +1,12 @@
 -- The definitions at work: the example of RFC 1071, section 3, and places of records as document 01 gives them.
 -- Assumes nothing.
-use mathlib.Core.Path.{_≡_, refl}
-use mathlib.Core.List.{List, [], _∷_, _++_}
 use Prim.Native.Nat.{ℕ}
-use lib.ListN.{drop, replicate}
+use mathlib.Core.List.{List, [], _∷_}
+use mathlib.Core.Path.{_≡_, refl}
+use lib.ListN.{drop}
 use Rattle.record.specs.Bytes.{littleEndian, littleBytes}
-use Rattle.record.specs.Layout.{decodeRecord, encodeRecord, recordAt}
 use Rattle.record.specs.Check.{words, onesSum, checksum}
+use Rattle.record.specs.Layout.{decodeRecord, encodeRecord, recordAt}
 use Rattle.record.specs.declared.Record.{Record}
 
 -- "0001 + f203 + f4f5 + f6f7", its carries added in: "ddf2"
@@ -47,7 +47,8 @@ layout =
       span = record { offset = 0x14131211; len = 0x18171615 };
     }
 
-fields-in-order : encodeRecord layout ≡ 1 ∷ 2 ∷ 3 ∷ 4 ∷ 5 ∷ 6 ∷ 7 ∷ 8 ∷ 9 ∷ 10 ∷ 11 ∷ 12 ∷ 13 ∷ 14 ∷ 15 ∷ 16 ∷ 17 ∷ 18 ∷ 19 ∷ 20 ∷ 21 ∷ 22 ∷ 23 ∷ 24 ∷ []
+fields-in-order :
+    encodeRecord layout ≡ 1 ∷ 2 ∷ 3 ∷ 4 ∷ 5 ∷ 6 ∷ 7 ∷ 8 ∷ 9 ∷ 10 ∷ 11 ∷ 12 ∷ 13 ∷ 14 ∷ 15 ∷ 16 ∷ 17 ∷ 18 ∷ 19 ∷ 20 ∷ 21 ∷ 22 ∷ 23 ∷ 24 ∷ []
 unfolding layout encodeRecord littleBytes
 fields-in-order = refl
 

@@ -1,10 +1,10 @@
 -- Little-endian numbers, for every width: read in two parts, read back from their bytes, and their bytes read back.
 -- Assumes nothing.
-use mathlib.Core.Path.{_≡_, refl, sym, ap, ap₂, _∙_}
-use mathlib.Core.List.{List, [], _∷_, _++_}
 use Prim.Native.Nat.{ℕ, zero, suc, _+_, _*_, _/_, _%_, _^_, _≤_, _<_}
-use native.Mathlib.Omega.{arith}
+use mathlib.Core.List.{List, [], _∷_, _++_}
+use mathlib.Core.Path.{_≡_, refl, sym, ap}
 use native.Mathlib.Nat.{zero-add, suc-add, pow-suc, one-le-pow, div-lt-iff-lt-mul}
+use native.Mathlib.Omega.{arith}
 use lib.Dec.{lit<, lit≤}
 use lib.ListN.{length, take, drop, getD}
 use lib.Seq.{getD-drop}
@@ -53,7 +53,12 @@ bytes-back (suc n) (b ∷ s) each h =
     rw (low, high) (ap (λ (t : List ℕ). b ∷ t) (bytes-back n s (behind each) (omega arith)))
 
 -- two numbers of k bytes that stand one behind the other are one of k + k
-pub halves : (k : ℕ) (s t : List ℕ) {low high : ℕ} → low ≡ littleEndian k s → t ≡ drop k s → high ≡ littleEndian k t → low + 256 ^ k * high ≡ littleEndian (k + k) s
+pub halves :
+    (k : ℕ) (s t : List ℕ) {low high : ℕ} →
+    low ≡ littleEndian k s →
+    t ≡ drop k s →
+    high ≡ littleEndian k t →
+    low + 256 ^ k * high ≡ littleEndian (k + k) s
 halves k s t l d h = rw (l, h, d) (sym (parts k k s))
 
 -- n bytes make a number below 256^n

@@ -1,21 +1,24 @@
 -- The words of a block, and the one's complement sum: carries folded as they come or all at the end, the sum is the same.
 -- Assumes nothing.
-use mathlib.Core.Path.{_≡_, refl, sym, ap, ap₂, _∙_}
+use Prim.Native.Nat.{ℕ, zero, suc, _+_, _-_, _*_, _%_, _≤_, _<_}
 use mathlib.Core.List.{List, [], _∷_}
-use Prim.Native.Nat.{ℕ, zero, suc, _+_, _-_, _*_, _/_, _%_, _≤_, _<_}
-use native.Mathlib.Omega.{arith}
+use mathlib.Core.Path.{_≡_, refl, sym, ap, _∙_}
 use native.Mathlib.Nat.{zero-add, add-zero, suc-add}
-use lib.ListN.{take, drop, getD}
+use native.Mathlib.Omega.{arith}
 use lib.Dec.{lit<, lit≤}
-use lib.Seq.{drop-nil, take-nil, take-take, getD-take, getD-drop}
-use Rattle.record.proofs.Numbers.{one-there, bytes-drop}
+use lib.ListN.{take, drop, getD}
+use lib.Seq.{drop-nil, take-nil, take-take, getD-take}
 use Rattle.record.specs.Bytes.{AreBytes, littleEndian}
 use Rattle.record.specs.Check.{words, once, onesSum, checksum, blockWords, blockCheck, total, FoldedLate}
+use Rattle.record.proofs.Numbers.{number-below, bytes-drop}
 
 twice-suc : (k : ℕ) → 2 * suc k ≡ suc (suc (2 * k))
 twice-suc k = omega arith
 
-pub word-there : (s : List ℕ) (k : ℕ) → getD (words s) k 0 ≡ 256 * littleEndian 1 (drop (2 * k) s) + littleEndian 1 (drop 1 (drop (2 * k) s))
+-- word k is made of the bytes at 2 k and behind it
+pub word-there :
+    (s : List ℕ) (k : ℕ) →
+    getD (words s) k 0 ≡ 256 * littleEndian 1 (drop (2 * k) s) + littleEndian 1 (drop 1 (drop (2 * k) s))
 unfolding words littleEndian
 word-there [] k = rw (drop-nil (2 * k))
 word-there (a ∷ []) zero = omega arith
@@ -41,9 +44,9 @@ total-suc (w ∷ ws) (suc k) = rw (total-suc ws k) (omega arith)
 -- a word is below 2^16
 pub word-below : (s : List ℕ) → AreBytes s → (k : ℕ) → getD (words s) k 0 < 65536
 word-below s each k =
-    let high : littleEndian 1 (drop (2 * k) s) < 256 = rw (one-there (drop (2 * k) s), getD-drop (2 * k) s 0 0) (each .byte (2 * k + 0)) in
-    let low : littleEndian 1 (drop 1 (drop (2 * k) s)) < 256 =
-    rw (one-there (drop 1 (drop (2 * k) s)), getD-drop 1 (drop (2 * k) s) 0 0, getD-drop (2 * k) s 1 0) (each .byte (2 * k + 1)) in
+    let at = drop (2 * k) s in
+    let high : littleEndian 1 at < 256 = number-below 1 at (bytes-drop (2 * k) each) in
+    let low : littleEndian 1 (drop 1 at) < 256 = number-below 1 (drop 1 at) (bytes-drop 1 (bytes-drop (2 * k) each)) in
     rw (word-there s k) (omega arith)
 
 -- every carry folded: the number from 1 to 65,535 that is x but for a multiple of 65,535, and 0 only for 0
@@ -81,10 +84,9 @@ total-below (suc n) ws small =
 pub folded-late : FoldedLate
 unfolding checksum
 folded-late ws small =
-    let bound : total (take 255 ws) ≤ 255 * 65535 = total-below 255 ws small in (
-      omega arith,
-      ap (λ (y : ℕ). 65535 - y) (folded-sum 255 ws small ∙ sym (folded-twice (total (take 255 ws)) bound)),
-    )
+    let bound : total (take 255 ws) ≤ 255 * 65535 = total-below 255 ws small in
+    let same = folded-sum 255 ws small ∙ sym (folded-twice (total (take 255 ws)) bound) in
+    (omega arith, ap (λ (y : ℕ). 65535 - y) same)
 
 module _ (book : List ℕ) (k : ℕ) where
   -- the words of the rest of the book from block k on

@@ -1,12 +1,12 @@
 -- From 24 bytes to a record and back, and from a record to 24 bytes and back.
 -- Assumes nothing.
+use Prim.Native.Nat.{ℕ, _+_, _^_, _≤_, _<_}
+use mathlib.Core.List.{List, [], _++_, append-nil}
 use mathlib.Core.Path.{_≡_, refl, sym, ap, ap₂, _∙_}
-use mathlib.Core.List.{List, [], _∷_, _++_, append-nil}
-use Prim.Native.Nat.{ℕ, zero, suc, _+_, _*_, _/_, _%_, _^_, _≤_, _<_}
 use native.Mathlib.Omega.{arith}
-use lib.ListN.{length, take, drop, getD, length-drop}
 use lib.Dec.{lit≤}
-use lib.Seq.{take-add, take-all, getD-drop}
+use lib.ListN.{length, take, drop, length-drop}
+use lib.Seq.{take-add, take-all}
 use Rattle.record.specs.Bytes.{AreBytes, littleEndian, littleBytes}
 use Rattle.record.specs.Layout.{Within, decodeRecord, encodeRecord}
 use Rattle.record.specs.Trips.{BytesAndBack, RecordAndBack, RecordIs24Bytes, BytesAreWithin}

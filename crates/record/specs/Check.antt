@@ -1,9 +1,9 @@
 -- The check of a block, from RFC 1071, "Computing the Internet Checksum".
 -- Assumes nothing.
 use Prim.Native.Nat.{ℕ, _+_, _-_, _*_, _/_, _%_, _<_}
-use mathlib.Core.Path.{_≡_}
 use mathlib.Core.Bool.{Bool}
 use mathlib.Core.List.{List, [], _∷_}
+use mathlib.Core.Path.{_≡_}
 use lib.Dec.{eqb}
 use lib.ListN.{take, drop, getD}
 

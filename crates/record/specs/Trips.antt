@@ -1,8 +1,8 @@
 -- What is claimed of the record's layout; the proofs are in proofs/Trips.antt.
 -- Assumes nothing.
 use Prim.Native.Nat.{ℕ}
-use mathlib.Core.Path.{_≡_}
 use mathlib.Core.List.{List}
+use mathlib.Core.Path.{_≡_}
 use lib.ListN.{length}
 use Rattle.record.specs.Bytes.{AreBytes}
 use Rattle.record.specs.Layout.{Within, decodeRecord, encodeRecord}
