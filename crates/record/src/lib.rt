@@ -17,7 +17,7 @@ const BLOCK_RECORDS: u16 = 21;
 
 const RECORD_BYTES: usize = 24;
 
-// A byte-offset range in source text.
+// Where in its source text something stands: the offset of its first byte, and its length.
 pub struct Span {
     pub offset: u32,
     pub len: u32,

@@ -5,7 +5,7 @@ ghost use Rattle.record.specs.Named.{namedRecord};
 use crate::Record;
 use crate::Span;
 
-// Opaque handle to a type: a declared type, a generic alias or a stub, numbered in this order. Never a record number.
+// A type by its number: declared types first, then generic aliases, then stubs. Never used as a record number.
 pub struct TypeId(pub u32);
 
 // The result record of a named type, the one place where a type number goes into a record.
