@@ -1,4 +1,4 @@
--- `arith::as_i64` meets its contract: the bits stay, and `cast-signed` says that they stand for the same integer in both readings.
+-- `arith::as_i64` meets its contract. The bits stay, and `cast-signed` says that they stand for the same integer in both readings.
 -- Assumes nothing.
 use Rattle.arith.proofs.Words.{cast-signed}
 use Rattle.arith.proofs.as_i64.Statement.{statement}

@@ -1,4 +1,4 @@
--- `arith::checked_add` meets its contract: the sum of what the two words stand for.
+-- `arith::checked_add` meets its contract. The sum of what the two words stand for.
 -- Assumes nothing.
 use mathlib.Core.Path.{_∙_, ap₂}
 use borrow.Author.Needs.{needs}
@@ -6,19 +6,10 @@ use Rattle.arith.specs.Checked.{checkedAdd}
 use Rattle.arith.proofs.checked_add.Statement.{statement}
 use Rattle.arith.proofs.checked_add.Tie as tie
 
-split-requires : tie.Need-split-requires
-split-requires c κs = search needs
-
-split-requires-2 : tie.Need-split-requires-2
-split-requires-2 c κs = search needs
-
-sum-requires : tie.Need-sum-requires
-sum-requires c κs = search needs
-
 returns : tie.Need-returns
 unfolding checkedAdd
 returns c =
     c .sum .ensures ∙ ap₂ checkedAdd (c .before .before .split .ensures) (c .before .split2 .ensures)
 
 pub checked-add-spec : {M : Type 1} → statement M
-checked-add-spec = tie.close (tie.spec split-requires split-requires-2 sum-requires returns)
+checked-add-spec = tie.close (tie.spec (λ c κs. search needs) (λ c κs. search needs) (λ c κs. search needs) returns)

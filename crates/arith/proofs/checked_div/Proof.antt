@@ -1,4 +1,4 @@
--- `arith::checked_div` meets its contract: the sizes' quotient with the sign of both.
+-- `arith::checked_div` meets its contract. The sizes' quotient with the sign of both.
 -- Assumes nothing.
 use mathlib.Core.Path.{_∙_}
 use borrow.Author.Needs.{needs}
@@ -6,22 +6,10 @@ use Rattle.arith.proofs.Answers.{quotient-zero, quotient-is}
 use Rattle.arith.proofs.checked_div.Statement.{statement}
 use Rattle.arith.proofs.checked_div.Tie as tie
 
-split-requires : tie.Need-split-requires
-split-requires c κs = search needs
-
-split-requires-2 : tie.Need-split-requires-2
-split-requires-2 c κs = search needs
-
 returns : tie.Need-returns
 returns c =
     quotient-zero (c .before .before .split .result) (c .before .split2 .result)
     (c .before .before .split .ensures) (c .before .split2 .ensures) (c .if1 .taken)
-
-div-t7 : tie.Need-div-t7
-div-t7 c = search needs
-
-fit-requires : tie.Need-fit-requires
-fit-requires c κs = search needs
 
 returns-2 : tie.Need-returns-2
 returns-2 c =
@@ -33,4 +21,4 @@ returns-2 c =
 
 pub checked-div-spec : {M : Type 1} → statement M
 checked-div-spec =
-    tie.close (tie.spec split-requires split-requires-2 returns div-t7 fit-requires returns-2)
+    tie.close (tie.spec (λ c κs. search needs) (λ c κs. search needs) returns (λ c. search needs) (λ c κs. search needs) returns-2)

@@ -1,4 +1,4 @@
--- `arith::checked_mul` meets its contract: the sizes' product with the sign of both; a size past 64 bits is past i64 too.
+-- `arith::checked_mul` meets its contract. The sizes' product with the sign of both; a size past 64 bits is past i64 too.
 -- Assumes nothing.
 use Prim.Native.Nat.{_*_, _^_, _<_}
 use mathlib.Core.Path.{sym, _∙_}
@@ -9,19 +9,10 @@ use Rattle.arith.proofs.Words.{over-either}
 use Rattle.arith.proofs.checked_mul.Statement.{statement}
 use Rattle.arith.proofs.checked_mul.Tie as tie
 
-split-requires : tie.Need-split-requires
-split-requires c κs = search needs
-
-split-requires-2 : tie.Need-split-requires-2
-split-requires-2 c κs = search needs
-
 returns : tie.Need-returns
 returns c =
     product-zero (c .before .before .split .result) (c .before .split2 .result)
     (c .before .before .split .ensures) (c .before .split2 .ensures) (c .if1 .taken)
-
-div-if2 : tie.Need-div-if2
-div-if2 c = search needs
 
 returns-2 : tie.Need-returns-2
 returns-2 c =
@@ -41,9 +32,6 @@ mul-t8 c =
           (c .before .before .if2 .left);
     }
 
-fit-requires : tie.Need-fit-requires
-fit-requires c κs = search needs
-
 returns-3 : tie.Need-returns-3
 returns-3 c =
     let p = c .before .before .before .before .before .before in
@@ -55,11 +43,11 @@ pub checked-mul-spec : {M : Type 1} → statement M
 checked-mul-spec =
     tie.close
     (tie.spec
-    split-requires
-    split-requires-2
+    (λ c κs. search needs)
+    (λ c κs. search needs)
     returns
-    div-if2
+    (λ c. search needs)
     returns-2
     mul-t8
-    fit-requires
+    (λ c κs. search needs)
     returns-3)

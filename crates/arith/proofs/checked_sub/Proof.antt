@@ -1,4 +1,4 @@
--- `arith::checked_sub` meets its contract: the sum of the first and the negated second.
+-- `arith::checked_sub` meets its contract. The sum of the first and the negated second.
 -- Assumes nothing.
 use mathlib.Core.Path.{_∙_, ap, ap₂}
 use lib.IntN.{ℤ, _+ℤ_}
@@ -7,18 +7,6 @@ use Rattle.arith.specs.Checked.{checkedSub, fitting}
 use Rattle.arith.specs.Sign.{value}
 use Rattle.arith.proofs.checked_sub.Statement.{statement}
 use Rattle.arith.proofs.checked_sub.Tie as tie
-
-split-requires : tie.Need-split-requires
-split-requires c κs = search needs
-
-split-requires-2 : tie.Need-split-requires-2
-split-requires-2 c κs = search needs
-
-negated-requires : tie.Need-negated-requires
-negated-requires c κs = search needs
-
-sum-requires : tie.Need-sum-requires
-sum-requires c κs = search needs
 
 returns : tie.Need-returns
 unfolding checkedSub
@@ -29,4 +17,4 @@ returns c =
 
 pub checked-sub-spec : {M : Type 1} → statement M
 checked-sub-spec =
-    tie.close (tie.spec split-requires split-requires-2 negated-requires sum-requires returns)
+    tie.close (tie.spec (λ c κs. search needs) (λ c κs. search needs) (λ c κs. search needs) (λ c κs. search needs) returns)

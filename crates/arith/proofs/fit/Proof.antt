@@ -1,4 +1,4 @@
--- `arith::fit` meets its contract: at each return the tests that led there say which law of `fitting` holds.
+-- `arith::fit` meets its contract. At each return the tests that led there say which law of `fitting` holds.
 -- Assumes nothing.
 use Prim.Native.Nat.{_+_, _-_, _^_, _≤_, _<_}
 use mathlib.Core.Option.{some}
@@ -15,12 +15,6 @@ returns c = rw (c .if1 .taken) (zero-fits (c .before .before .args .s .minus))
 
 returns-2 : tie.Need-returns-2
 returns-2 c = rw (c .before .before .if2 .taken) (sym (over-minus _ (c .if3 .taken)))
-
-sub-t4 : tie.Need-sub-t4
-sub-t4 c = search needs
-
-add-t5 : tie.Need-add-t5
-add-t5 c = search needs
 
 returns-3 : tie.Need-returns-3
 returns-3 c =
@@ -41,4 +35,4 @@ returns-5 : tie.Need-returns-5
 returns-5 c = rw (c .before .before .if2 .left) (sym (over-plus _ (c .if4 .left)))
 
 pub fit-spec : {M : Type 1} → statement M
-fit-spec = tie.close (tie.spec returns returns-2 sub-t4 add-t5 returns-3 returns-4 returns-5)
+fit-spec = tie.close (tie.spec returns returns-2 (λ c. search needs) (λ c. search needs) returns-3 returns-4 returns-5)

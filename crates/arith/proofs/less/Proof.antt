@@ -1,4 +1,4 @@
--- `arith::less` meets its contract: of integers of two signs the larger size keeps its sign.
+-- `arith::less` meets its contract. Of integers of two signs the larger size keeps its sign.
 -- Assumes nothing.
 use mathlib.Core.Path.{sym, ap, _∙_}
 use borrow.Author.Needs.{needs}
@@ -7,19 +7,10 @@ use Rattle.arith.proofs.Signs.{add-other-lt, add-other-le}
 use Rattle.arith.proofs.less.Statement.{statement}
 use Rattle.arith.proofs.less.Tie as tie
 
-sub-t6 : tie.Need-sub-t6
-sub-t6 c = search needs
-
-fit-requires : tie.Need-fit-requires
-fit-requires c κs = search needs
-
 returns : tie.Need-returns
 returns c =
     let a = c .before .before .args in
     c .fit .ensures ∙ ap fitting (sym (add-other-lt (a .minus) (a .m) (a .n) (c .before .if1 .taken)))
-
-fit-requires-2 : tie.Need-fit-requires-2
-fit-requires-2 c κs = search needs
 
 returns-2 : tie.Need-returns-2
 returns-2 c =
@@ -27,4 +18,4 @@ returns-2 c =
     c .fit2 .ensures ∙ ap fitting (sym (add-other-le (a .minus) (a .m) (a .n) (c .before .if1 .left)))
 
 pub less-spec : {M : Type 1} → statement M
-less-spec = tie.close (tie.spec sub-t6 fit-requires returns fit-requires-2 returns-2)
+less-spec = tie.close (tie.spec (λ c. search needs) (λ c κs. search needs) returns (λ c κs. search needs) returns-2)

@@ -1,4 +1,4 @@
--- `arith::negated` meets its contract: the sign turned is the integer negated.
+-- `arith::negated` meets its contract. The sign turned is the integer negated.
 -- Assumes nothing.
 use Rattle.arith.proofs.Signs.{neg-signed}
 use Rattle.arith.proofs.negated.Statement.{statement}

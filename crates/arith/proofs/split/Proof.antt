@@ -1,4 +1,4 @@
--- `arith::split` meets its contract: each half of the words by its own law.
+-- `arith::split` meets its contract. Each half of the words by its own law.
 -- Assumes nothing.
 use Prim.Native.Nat.{_+_, _-_, _^_, _≤_, _<_}
 use mathlib.Core.Path.{_≡_, sym}
@@ -7,12 +7,6 @@ use borrow.Author.Needs.{needs}
 use Rattle.arith.proofs.Words.{signed-low, signed-high}
 use Rattle.arith.proofs.split.Statement.{statement}
 use Rattle.arith.proofs.split.Tie as tie
-
-sub-t4 : tie.Need-sub-t4
-sub-t4 c = search needs
-
-add-t5 : tie.Need-add-t5
-add-t5 c = search needs
 
 returns : tie.Need-returns
 returns c = sym (signed-low (c .before .args .w) (c .if1 .taken))
@@ -27,4 +21,4 @@ returns-2 c =
     sym (signed-high w (2 ^ 64 - 1 - w + 1) (omega arith) below whole)
 
 pub split-spec : {M : Type 1} → statement M
-split-spec = tie.close (tie.spec sub-t4 add-t5 returns returns-2)
+split-spec = tie.close (tie.spec (λ c. search needs) (λ c. search needs) returns returns-2)

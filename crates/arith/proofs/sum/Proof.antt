@@ -1,4 +1,4 @@
--- `arith::sum` meets its contract: the two signs are the same or opposite, and `more` or `less` has the sum.
+-- `arith::sum` meets its contract. The two signs are the same or opposite, and `more` or `less` has the sum.
 -- Assumes nothing.
 use mathlib.Core.Bool.{Bool}
 use mathlib.Core.Path.{ap, _∙_}
@@ -9,12 +9,6 @@ use Rattle.arith.specs.Sign.{signedBy, value}
 use Rattle.arith.proofs.Signs.{same-sign, other-sign}
 use Rattle.arith.proofs.sum.Statement.{statement}
 use Rattle.arith.proofs.sum.Tie as tie
-
-more-requires : tie.Need-more-requires
-more-requires c κs = search needs
-
-less-requires : tie.Need-less-requires
-less-requires c κs = search needs
 
 returns : tie.Need-returns
 returns c =
@@ -31,4 +25,4 @@ returns-2 c =
     ∙ ap (λ (s : Bool). fitting (value p +ℤ signedBy s (q .size))) (other-sign (p .minus) (q .minus) (c .before .if1 .left))
 
 pub sum-spec : {M : Type 1} → statement M
-sum-spec = tie.close (tie.spec more-requires less-requires returns returns-2)
+sum-spec = tie.close (tie.spec (λ c κs. search needs) (λ c κs. search needs) returns returns-2)

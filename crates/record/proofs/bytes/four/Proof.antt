@@ -1,31 +1,10 @@
--- `record::bytes::four` meets its contract: two halves, by the law for every width.
+-- `record::bytes::four` meets its contract. Two halves, by the law for every width.
 -- Assumes nothing.
 use denote.Ref.{now}
 use borrow.Author.Needs.{needs}
 use Rattle.record.proofs.Numbers.{halves}
 use Rattle.record.proofs.bytes.four.Statement.{statement}
 use Rattle.record.proofs.bytes.four.Tie as tie
-
-two-requires : tie.Need-two-requires
-two-requires c κs = search needs
-
-cast-low : tie.Need-cast-low
-cast-low c = search needs
-
-from-requires : tie.Need-from-requires
-from-requires c κs = search needs
-
-two-requires-2 : tie.Need-two-requires-2
-two-requires-2 c κs = search needs
-
-cast-high : tie.Need-cast-high
-cast-high c = search needs
-
-mul-result : tie.Need-mul-result
-mul-result c = search needs
-
-add-result : tie.Need-add-result
-add-result c = search needs
 
 returns : tie.Need-returns
 returns c =
@@ -36,11 +15,11 @@ pub four-spec : {M : Type 1} → statement M
 four-spec =
     tie.close
     (tie.spec
-    two-requires
-    cast-low
-    from-requires
-    two-requires-2
-    cast-high
-    mul-result
-    add-result
+    (λ c κs. search needs)
+    (λ c. search needs)
+    (λ c κs. search needs)
+    (λ c κs. search needs)
+    (λ c. search needs)
+    (λ c. search needs)
+    (λ c. search needs)
     returns)

@@ -1,4 +1,4 @@
--- `record::bytes::from` meets its contract: the part from the place on is all that `drop` leaves.
+-- `record::bytes::from` meets its contract. The part from the place on is all that `drop` leaves.
 -- Assumes nothing.
 use Prim.Native.Nat.{_-_, _≤_}
 use mathlib.Core.Path.{sym}
@@ -9,18 +9,6 @@ use denote.Ref.{now}
 use borrow.Author.Needs.{needs}
 use Rattle.record.proofs.bytes.from.Statement.{statement}
 use Rattle.record.proofs.bytes.from.Tie as tie
-
-sub-result : tie.Need-sub-result
-sub-result c = search needs
-
-part-result-start : tie.Need-part-result-start
-part-result-start c = search needs
-
-part-result-end : tie.Need-part-result-end
-part-result-end c = search needs
-
-slice-aggregate-result : tie.Need-slice-aggregate-result
-slice-aggregate-result c = search needs
 
 returns : tie.Need-returns
 returns c =
@@ -38,9 +26,9 @@ pub from-spec : {M : Type 1} → statement M
 from-spec =
     tie.close
     (tie.spec
-    sub-result
-    part-result-start
-    part-result-end
-    slice-aggregate-result
+    (λ c. search needs)
+    (λ c. search needs)
+    (λ c. search needs)
+    (λ c. search needs)
     returns
     returns-2)

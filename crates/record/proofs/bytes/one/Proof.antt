@@ -1,4 +1,4 @@
--- `record::bytes::one` meets its contract: the first byte, or 0 where there is none.
+-- `record::bytes::one` meets its contract. The first byte, or 0 where there is none.
 -- Assumes nothing.
 use Prim.Native.Nat.{_≤_}
 use mathlib.Core.Path.{sym, _∙_}
@@ -8,9 +8,6 @@ use borrow.Author.Needs.{needs}
 use Rattle.record.proofs.Numbers.{one-there}
 use Rattle.record.proofs.bytes.one.Statement.{statement}
 use Rattle.record.proofs.bytes.one.Tie as tie
-
-shared-slice-read-result : tie.Need-shared-slice-read-result
-shared-slice-read-result c = search needs
 
 returns : tie.Need-returns
 returns c = sym (one-there (now (c .before .before .args .s)))
@@ -22,4 +19,4 @@ returns-2 c =
     sym (one-there s ∙ List·getD-eq-default s 0 gone)
 
 pub one-spec : {M : Type 1} → statement M
-one-spec = tie.close (tie.spec shared-slice-read-result returns returns-2)
+one-spec = tie.close (tie.spec (λ c. search needs) returns returns-2)

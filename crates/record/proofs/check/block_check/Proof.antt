@@ -1,4 +1,4 @@
--- `record::check::block_check` meets its contract: the sum of the first 255 words, folded twice and inverted, is the checksum (`check-late`).
+-- `record::check::block_check` meets its contract. The sum of the first 255 words, folded twice and inverted, is the checksum (`check-late`).
 -- Assumes nothing.
 use Prim.Native.Nat.{ℕ}
 use mathlib.Core.List.{List}
@@ -10,27 +10,6 @@ use Rattle.record.specs.Check.{words, total}
 use Rattle.record.proofs.Sums.{check-late}
 use Rattle.record.proofs.check.block_check.Statement.{statement}
 use Rattle.record.proofs.check.block_check.Tie as tie
-
-mul-from : tie.Need-mul-from
-mul-from c = search needs
-
-from-requires : tie.Need-from-requires
-from-requires c κs = search needs
-
-sum-words-requires : tie.Need-sum-words-requires
-sum-words-requires c κs = search needs
-
-fold-requires : tie.Need-fold-requires
-fold-requires c κs = search needs
-
-fold-requires-2 : tie.Need-fold-requires-2
-fold-requires-2 c κs = search needs
-
-sub-result : tie.Need-sub-result
-sub-result c = search needs
-
-cast-result : tie.Need-cast-result
-cast-result c = search needs
 
 returns : tie.Need-returns
 returns c =
@@ -44,11 +23,11 @@ pub block-check-spec : {M : Type 1} → statement M
 block-check-spec =
     tie.close
     (tie.spec
-    mul-from
-    from-requires
-    sum-words-requires
-    fold-requires
-    fold-requires-2
-    sub-result
-    cast-result
+    (λ c. search needs)
+    (λ c κs. search needs)
+    (λ c κs. search needs)
+    (λ c κs. search needs)
+    (λ c κs. search needs)
+    (λ c. search needs)
+    (λ c. search needs)
     returns)

@@ -1,4 +1,4 @@
--- `record::check::check_holds` meets its contract: word 255 of the rest is the block's last.
+-- `record::check::check_holds` meets its contract. Word 255 of the rest is the block's last.
 -- Assumes nothing.
 use Prim.Native.Nat.{ℕ}
 use mathlib.Core.List.{List}
@@ -12,18 +12,6 @@ use Rattle.record.proofs.Sums.{last-word}
 use Rattle.record.proofs.check.check_holds.Statement.{statement}
 use Rattle.record.proofs.check.check_holds.Tie as tie
 
-mul-from : tie.Need-mul-from
-mul-from c = search needs
-
-from-requires : tie.Need-from-requires
-from-requires c κs = search needs
-
-word-at-requires : tie.Need-word-at-requires
-word-at-requires c κs = search needs
-
-block-check-requires : tie.Need-block-check-requires
-block-check-requires c κs = search needs
-
 returns : tie.Need-returns
 unfolding checkHolds
 returns c =
@@ -36,4 +24,4 @@ returns c =
 
 pub check-holds-spec : {M : Type 1} → statement M
 check-holds-spec =
-    tie.close (tie.spec mul-from from-requires word-at-requires block-check-requires returns)
+    tie.close (tie.spec (λ c. search needs) (λ c κs. search needs) (λ c κs. search needs) (λ c κs. search needs) returns)

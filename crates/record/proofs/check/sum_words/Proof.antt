@@ -1,4 +1,4 @@
--- `record::check::sum_words` meets its contract: the loop's invariant: the sum of the first k words, at most 65,535 for each.
+-- `record::check::sum_words` meets its contract. The loop's invariant: the sum of the first k words, at most 65,535 for each.
 -- Assumes nothing.
 use Prim.Native.Nat.{ℕ, _-_, _*_, _≤_}
 use mathlib.Core.Path.{_≡_, ap, _∙_}
@@ -22,21 +22,6 @@ loop-holds : tie.Need-loop-holds Inv-loop μ-loop
 unfolding total
 loop-holds c = search needs
 
-word-at-requires : tie.Need-word-at-requires Inv-loop μ-loop
-word-at-requires c κs = search needs
-
-cast-sum : tie.Need-cast-sum Inv-loop μ-loop
-cast-sum c = search needs
-
-add-sum : tie.Need-add-sum Inv-loop μ-loop
-add-sum c = search needs
-
-add-k : tie.Need-add-k Inv-loop μ-loop
-add-k c = search needs
-
-loop-less : tie.Need-loop-less Inv-loop μ-loop
-loop-less c = search needs
-
 loop-again : tie.Need-loop-again Inv-loop μ-loop
 loop-again c =
     let l = c .before .before .loop in
@@ -55,10 +40,10 @@ sum-words-spec =
     Inv-loop
     μ-loop
     loop-holds
-    word-at-requires
-    cast-sum
-    add-sum
-    add-k
-    loop-less
+    (λ c κs. search needs)
+    (λ c. search needs)
+    (λ c. search needs)
+    (λ c. search needs)
+    (λ c. search needs)
     loop-again
     returns)

@@ -1,4 +1,4 @@
--- `record::write::put_record` meets its contract: the loop's invariant: the first i bytes of the record are copied. Past the room nothing is touched.
+-- `record::write::put_record` meets its contract. The loop's invariant: the first i bytes of the record are copied. Past the room nothing is touched.
 -- Assumes nothing.
 use Prim.Native.Nat.{ℕ, _*_, _<_, _-_, _+_, _≤_}
 use mathlib.Core.List.{List}
@@ -31,23 +31,11 @@ pasted c =
     ap length (c .loop .inv .1 .0)
     ∙ length-paste (now (a .dst)) (24 * a .n) (c .before .encode .result) (c .loop .i) (omega arith) (omega arith)
 
-room-requires : tie.Need-room-requires Inv-loop μ-loop
-room-requires c κs = search needs
-
-same-length : tie.Need-same-length Inv-loop μ-loop
-same-length c = search needs
-
 returns : tie.Need-returns Inv-loop μ-loop
 returns c =
     let a = c .before .before .before .before .args in
     let full : roomFor (a .most) (now (a .dst)) ≤ a .n = omega (arith, c .before .room .ensures) in
     (sym (le-ltb (a .n) (roomFor (a .most) (now (a .dst))) full), put-out (a .most) (now (a .dst)) (a .n) (a .r) full)
-
-encode-requires : tie.Need-encode-requires Inv-loop μ-loop
-encode-requires c κs = search needs
-
-mul-at : tie.Need-mul-at Inv-loop μ-loop
-mul-at c = search needs
 
 loop-holds : tie.Need-loop-holds Inv-loop μ-loop
 loop-holds c =
@@ -57,24 +45,12 @@ loop-holds c =
     let long : length (c .encode .result) ≡ 24 = ap length (c .encode .ensures) ∙ encode-length (a .r) in
     (lit≤ tt, (paste-zero (now (a .dst)) (24 * a .n) (c .encode .result), (whole, long)))
 
-array-read-dst : tie.Need-array-read-dst Inv-loop μ-loop
-array-read-dst c = search needs
-
-add-dst : tie.Need-add-dst Inv-loop μ-loop
-add-dst c = search needs
-
 slice-write-dst : tie.Need-slice-write-dst Inv-loop μ-loop
 slice-write-dst c =
     let l = c .before .loop in
     let a = c .before .before .before .before .before .before .before .args in
     let len : length (l .dst) ≡ length (now (a .dst)) = pasted (c .before) in
     omega arith
-
-add-i : tie.Need-add-i Inv-loop μ-loop
-add-i c = search needs
-
-loop-less : tie.Need-loop-less Inv-loop μ-loop
-loop-less c = search needs
 
 loop-again : tie.Need-loop-again Inv-loop μ-loop
 loop-again c =
@@ -103,17 +79,17 @@ put-record-spec =
     (tie.spec
     Inv-loop
     μ-loop
-    room-requires
-    same-length
+    (λ c κs. search needs)
+    (λ c. search needs)
     returns
-    encode-requires
-    mul-at
+    (λ c κs. search needs)
+    (λ c. search needs)
     loop-holds
-    array-read-dst
-    add-dst
+    (λ c. search needs)
+    (λ c. search needs)
     slice-write-dst
-    add-i
-    loop-less
+    (λ c. search needs)
+    (λ c. search needs)
     loop-again
     same-length-2
     returns-2)
