@@ -24,13 +24,6 @@ Inv-loop dst₀ most n bytes at i₀ dst i =
 abbrev μ-loop : tie.MeasureT-loop
 μ-loop dst₀ most n bytes at i₀ dst i = 24 - i
 
--- the slice keeps its length in the loop
-pasted : (c : tie.At-loop Inv-loop μ-loop) → length (c .loop .dst) ≡ length (now (c .before .before .before .before .before .before .args .dst))
-pasted c =
-    let a = c .before .before .before .before .before .before .args in
-    ap length (c .loop .inv .1 .0)
-    ∙ length-paste (now (a .dst)) (24 * a .n) (c .before .encode .result) (c .loop .i) (omega arith) (omega arith)
-
 returns : tie.Need-returns Inv-loop μ-loop
 returns c =
     let a = c .before .before .before .before .args in
@@ -44,6 +37,13 @@ loop-holds c =
     let whole = within-room (a .most) (now (a .dst)) (a .n) there in
     let long : length (c .encode .result) ≡ 24 = ap length (c .encode .ensures) ∙ encode-length (a .r) in
     (lit≤ tt, (paste-zero (now (a .dst)) (24 * a .n) (c .encode .result), (whole, long)))
+
+-- the slice keeps its length in the loop
+pasted : (c : tie.At-loop Inv-loop μ-loop) → length (c .loop .dst) ≡ length (now (c .before .before .before .before .before .before .args .dst))
+pasted c =
+    let a = c .before .before .before .before .before .before .args in
+    ap length (c .loop .inv .1 .0)
+    ∙ length-paste (now (a .dst)) (24 * a .n) (c .before .encode .result) (c .loop .i) (omega arith) (omega arith)
 
 slice-write-dst : tie.Need-slice-write-dst Inv-loop μ-loop
 slice-write-dst c =
