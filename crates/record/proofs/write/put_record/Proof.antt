@@ -19,7 +19,7 @@ use Rattle.record.proofs.write.put_record.Tie as tie
 
 abbrev Inv-loop : tie.InvT-loop
 Inv-loop dst₀ most n bytes at i₀ dst i =
-    (i ≤ 24) × ((dst ≡ paste dst₀ at bytes i) × ((at + 24 ≤ length dst₀) × (length bytes ≡ 24)))
+    (i ≤ 24) × ((at ≡ 24 * n) × ((dst ≡ paste dst₀ at bytes i) × ((at + 24 ≤ length dst₀) × (length bytes ≡ 24))))
 
 abbrev μ-loop : tie.MeasureT-loop
 μ-loop dst₀ most n bytes at i₀ dst i = 24 - i
@@ -36,13 +36,13 @@ loop-holds c =
     let there : a .n < roomFor (a .most) (now (a .dst)) = omega (arith, c .before .before .room .ensures) in
     let whole = within-room (a .most) (now (a .dst)) (a .n) there in
     let long : length (c .encode .result) ≡ 24 = ap length (c .encode .ensures) ∙ encode-length (a .r) in
-    (lit≤ tt, (paste-zero (now (a .dst)) (24 * a .n) (c .encode .result), (whole, long)))
+    (lit≤ tt, (omega arith, (paste-zero (now (a .dst)) (24 * a .n) (c .encode .result), (whole, long))))
 
 -- the slice keeps its length in the loop
 pasted : (c : tie.At-loop Inv-loop μ-loop) → length (c .loop .dst) ≡ length (now (c .before .before .before .before .before .before .args .dst))
 pasted c =
     let a = c .before .before .before .before .before .before .args in
-    ap length (c .loop .inv .1 .0)
+    ap length (c .loop .inv .1 .1 .0)
     ∙ length-paste (now (a .dst)) (24 * a .n) (c .before .encode .result) (c .loop .i) (omega arith) (omega arith)
 
 slice-write-dst : tie.Need-slice-write-dst Inv-loop μ-loop
@@ -57,7 +57,7 @@ loop-again c =
     let l = c .before .loop in
     let a = c .before .before .before .before .before .before .before .args in
     let copied = paste-suc (now (a .dst)) (24 * a .n) (c .before .before .encode .result) (l .i) 0 (omega arith) (omega arith) in
-    (search needs, (rw (add-one (l .i), l .inv .1 .0) copied, (l .inv .1 .1 .0, l .inv .1 .1 .1)))
+    (search needs, (l .inv .1 .0, (rw (add-one (l .i), l .inv .1 .1 .0) copied, l .inv .1 .1 .1)))
 
 same-length-2 : tie.Need-same-length-2 Inv-loop μ-loop
 same-length-2 c = pasted (c .before)
@@ -70,7 +70,7 @@ returns-2 c =
     let done : l .i ≡ 24 = omega arith in
     let copied =
     ap₂ (λ (b : List ℕ) (i : ℕ). paste (now (a .dst)) (24 * a .n) b i) (c .before .before .encode .ensures) done in
-    let written = l .inv .1 .0 ∙ copied ∙ put-in (a .most) (now (a .dst)) (a .n) (a .r) there in
+    let written = l .inv .1 .1 .0 ∙ copied ∙ put-in (a .most) (now (a .dst)) (a .n) (a .r) there in
     (sym (lt-ltb (a .n) (roomFor (a .most) (now (a .dst))) there), written)
 
 pub put-record-spec : {M : Type 1} → statement M
