@@ -7,8 +7,8 @@ use mathlib.Core.Path.{_≡_, sym, ap, _∙_}
 use native.Mathlib.Decide.{decLe}
 use native.Mathlib.Omega.{arith}
 use lib.Dec.{leb→le, le→leb}
-use lib.IntN.{pos, negsuc, negℤ}
-use lib.Signed.{_≤ℤ_}
+use lib.IntN.{ℤ, pos, negsuc, negℤ}
+use lib.Signed.{mag, _≤ℤ_}
 use mir.Facts.{toZ-pos}
 use mir.Syntax.{w64}
 use mir.Val.{toZ}
@@ -89,28 +89,23 @@ signed-as-in-rattle =
     (λ w h. signed-low w h ∙ sym (toZ-pos w64 h))
     (λ w l h. rw (le-ltb w (2 ^ 63) l) (signed-negsuc w l h ∙ ap negsuc (omega arith)))
 
-fits-negsuc : (n : ℕ) → n < 2 ^ 63 → fitting (negsuc n) ≡ some (negsuc n)
+-- i64 holds n and -(n + 1) exactly where n is below 2^63
+pub fits : (z : ℤ) → mag z < 2 ^ 63 → fitting z ≡ some z
 unfolding fitting
-fits-negsuc n h = rw (le-leb n (2 ^ 63 - 1) (omega arith))
+fits (pos n) h = rw (le-leb n (2 ^ 63 - 1) (omega arith))
+fits (negsuc n) h = rw (le-leb n (2 ^ 63 - 1) (omega arith))
 
-over-negsuc : (n : ℕ) → 2 ^ 63 ≤ n → fitting (negsuc n) ≡ none
+pub over : (z : ℤ) → 2 ^ 63 ≤ mag z → fitting z ≡ none
 unfolding fitting
-over-negsuc n h = rw (lt-leb n (2 ^ 63 - 1) (omega arith))
-
-pub fits-plus : (m : ℕ) → m < 2 ^ 63 → fitting (pos m) ≡ some (pos m)
-unfolding fitting
-fits-plus m h = rw (le-leb m (2 ^ 63 - 1) (omega arith))
-
-pub over-plus : (m : ℕ) → 2 ^ 63 ≤ m → fitting (pos m) ≡ none
-unfolding fitting
-over-plus m h = rw (lt-leb m (2 ^ 63 - 1) (omega arith))
+over (pos n) h = rw (lt-leb n (2 ^ 63 - 1) (omega arith))
+over (negsuc n) h = rw (lt-leb n (2 ^ 63 - 1) (omega arith))
 
 pub fits-minus : (m : ℕ) → 0 < m → m ≤ 2 ^ 63 → fitting (negℤ (pos m)) ≡ some (negℤ (pos m))
-fits-minus m p h = rw (minus-pred m p) (fits-negsuc (m - 1) (omega arith))
+fits-minus m p h = rw (minus-pred m p) (fits (negsuc (m - 1)) (omega arith))
 
 pub over-minus : (m : ℕ) → 2 ^ 63 < m → fitting (negℤ (pos m)) ≡ none
-over-minus m h = rw (minus-pred m (omega arith)) (over-negsuc (m - 1) (omega arith))
+over-minus m h = rw (minus-pred m (omega arith)) (over (negsuc (m - 1)) (omega arith))
 
 pub over-either : (s : Bool) (m : ℕ) → 2 ^ 63 < m → fitting (signedBy s m) ≡ none
 over-either true m h = over-minus m h
-over-either false m h = over-plus m (omega arith)
+over-either false m h = over (pos m) (omega arith)

@@ -4,9 +4,10 @@ use Prim.Native.Nat.{_+_, _-_, _^_, _≤_, _<_}
 use mathlib.Core.Option.{some}
 use mathlib.Core.Path.{_≡_, sym, ap, _∙_}
 use native.Mathlib.Omega.{arith}
+use lib.IntN.{pos}
 use borrow.Author.Needs.{needs}
 use Rattle.arith.proofs.Answers.{zero-fits}
-use Rattle.arith.proofs.Words.{signed-low, signed-high, fits-plus, over-plus, fits-minus, over-minus}
+use Rattle.arith.proofs.Words.{signed-low, signed-high, fits, over, fits-minus, over-minus}
 use Rattle.arith.proofs.fit.Statement.{statement}
 use Rattle.arith.proofs.fit.Tie as tie
 
@@ -29,10 +30,10 @@ returns-4 : tie.Need-returns-4
 returns-4 c =
     let m = c .before .before .before .before .before .args .s .size in
     rw (c .before .before .if2 .left)
-    (ap some (signed-low m (c .if4 .taken)) ∙ sym (fits-plus m (c .if4 .taken)))
+    (ap some (signed-low m (c .if4 .taken)) ∙ sym (fits (pos m) (c .if4 .taken)))
 
 returns-5 : tie.Need-returns-5
-returns-5 c = rw (c .before .before .if2 .left) (sym (over-plus _ (c .if4 .left)))
+returns-5 c = rw (c .before .before .if2 .left) (sym (over (pos (c .before .before .before .before .before .args .s .size)) (c .if4 .left)))
 
 pub fit-spec : {M : Type 1} → statement M
 fit-spec = tie.close (tie.spec returns returns-2 (λ c. search needs) (λ c. search needs) returns-3 returns-4 returns-5)
