@@ -30,7 +30,7 @@ unfoldable pub word : ℤ → ℕ
 word (pos n) = n
 word (negsuc n) = 2 ^ 64 - suc n
 
--- What is claimed of the two; the proofs are in proofs/Words.antt. A word is known by the integer that it stands for, so a promise over
+-- What is claimed of these; the proofs are in proofs/Words.antt. A word is known by the integer that it stands for, so a promise over
 -- the integers leaves no bit open.
 abbrev pub WordAndBack : Type 0
 WordAndBack = (w : ℕ) → w < 2 ^ 64 → word (signed w) ≡ w

@@ -9,7 +9,7 @@ use Rattle.record.specs.Check.{words, onesSum, checksum}
 use Rattle.record.specs.Layout.{decodeRecord, encodeRecord, recordAt}
 use Rattle.record.specs.declared.Record.{Record}
 
--- "0001 + f203 + f4f5 + f6f7", its carries added in: "ddf2"
+-- 0001 + f203 + f4f5 + f6f7 is 2ddf0, and ddf2 with its carries added in
 example : List ℕ
 example = 0x00 ∷ 0x01 ∷ 0xf2 ∷ 0x03 ∷ 0xf4 ∷ 0xf5 ∷ 0xf6 ∷ 0xf7 ∷ []
 

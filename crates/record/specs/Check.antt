@@ -1,4 +1,5 @@
--- The check of a block, from RFC 1071, "Computing the Internet Checksum".
+-- The check of a block, from RFC 1071 (the Internet checksum), whose steps (1) and (2) are said here in other words. Words in quotation
+-- marks are document 01's.
 -- Assumes nothing.
 use Prim.Native.Nat.{ℕ, _+_, _-_, _*_, _/_, _%_, _<_}
 use mathlib.Core.Bool.{Bool}
@@ -7,22 +8,22 @@ use mathlib.Core.Path.{_≡_}
 use lib.Dec.{eqb}
 use lib.ListN.{take, drop, getD}
 
--- RFC 1071 (1): "Adjacent octets to be checksummed are paired to form 16-bit integers"; an odd one is paired with 0
+-- RFC 1071 (1): neighbouring bytes are paired to 16-bit words, the first of a pair the more significant; an odd last byte is paired with 0
 unfoldable pub words : List ℕ → List ℕ
 words [] = []
 words (a ∷ []) = (256 * a) ∷ []
 words (a ∷ b ∷ s) = (256 * a + b) ∷ words s
 
--- the carry out of 16 bits added in again at the bottom ("end-around carry")
+-- the carry out of 16 bits, added in again at the bottom
 abbrev pub once : ℕ → ℕ
 once x = x % 65536 + x / 65536
 
--- "the 1's complement sum of these 16-bit integers is formed"
+-- RFC 1071 (1): the one's complement sum of the words, whose carry goes round at each addition
 unfoldable pub onesSum : List ℕ → ℕ
 onesSum [] = 0
 onesSum (w ∷ ws) = once (w + onesSum ws)
 
--- RFC 1071 (2): "the 1's complement of this sum"
+-- RFC 1071 (2): the one's complement of that sum, all bits inverted
 unfoldable pub checksum : List ℕ → ℕ
 checksum ws = 65535 - onesSum ws
 
