@@ -3,7 +3,7 @@
 ghost use mathlib.Core.Path.{_≡_};
 ghost use Rattle.record.specs.Layout.{decodeRecord, encodeRecord, recordAt};
 
-mod bytes;
+pub mod bytes;
 pub mod check;
 pub mod type_id;
 pub mod write;

@@ -1,0 +1,4 @@
+mod Scans
+mod Tallies
+mod Backs
+mod Examples

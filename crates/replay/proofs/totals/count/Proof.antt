@@ -1,0 +1,42 @@
+-- `replay::totals::count` meets its contract. A sum of so many answers is far from 2^64.
+-- Assumes nothing.
+use mathlib.Core.Bool.{not}
+use mathlib.Core.Path.{refl}
+use native.Mathlib.Omega.{arith}
+use borrow.Author.Needs.{needs}
+use Rattle.replay.proofs.Tallies.{bit-small}
+use Rattle.replay.proofs.totals.count.Statement.{statement}
+use Rattle.replay.proofs.totals.count.Tie as tie
+
+add-t6 : tie.Need-add-t6
+add-t6 c = omega (arith, bit-small (c .before .before .args .accepted))
+
+add-t9 : tie.Need-add-t9
+add-t9 c = omega (arith, bit-small (not (c .before .before .before .args .accepted)))
+
+add-t16 : tie.Need-add-t16
+add-t16 c =
+    let a = c .before .before .before .before .before .before .before .before .before .args in
+    omega (arith, bit-small (not (a .o .right)))
+
+returns : tie.Need-returns
+returns c =
+    let a = c .before .before .before .before .before .before .before .before .before .args in
+    (refl, omega (arith, bit-small (a .accepted), bit-small (not (a .accepted)), bit-small (not (a .o .right))))
+
+pub count-spec : {M : Type 1} → statement M
+count-spec =
+    tie.close
+    (tie.spec
+    (λ c. search needs)
+    (λ c. search needs)
+    add-t6
+    (λ c. search needs)
+    add-t9
+    (λ c. search needs)
+    (λ c. search needs)
+    (λ c. search needs)
+    (λ c. search needs)
+    (λ c. search needs)
+    add-t16
+    returns)

@@ -1,0 +1,7 @@
+pub mod Bytes
+pub mod Layout
+pub mod Range
+pub mod Agree
+pub mod Checks
+pub mod Outcome
+pub mod Totals

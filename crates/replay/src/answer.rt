@@ -1,0 +1,64 @@
+// One answer: a header, a book, and what was written for it.
+
+ghost use mathlib.Core.Path.{_≡_};
+ghost use Prim.Native.Nat.{_≤_};
+ghost use Rattle.replay.specs.Outcome.{complete, formed, checked, outcome};
+use crate::agree;
+use crate::checks;
+use crate::layout::Header;
+
+// What is found of an answer: whether it is right, how many blocks have the check that they should have or not have,
+// and how many records are read back.
+pub struct Outcome {
+    pub right: bool,
+    pub blocks: u16,
+    pub records: u16,
+}
+
+// Whether as many bytes stand behind the header as it says.
+fn is_complete(h: Header, book: usize, results: usize, diagnostics: usize) -> bool
+    ensures { λ r. ⌜ r ≡ complete h book results diagnostics ⌝ }
+{
+    (book == h.book as usize)
+        & (results == agree::following(h.cause, h.results) as usize)
+        & (diagnostics == agree::following(h.cause, h.diagnostics) as usize)
+}
+
+// Whether an answer has the form that it should have, before its book is looked into.
+fn is_formed(h: Header, book: usize, results: usize, diagnostics: usize) -> bool
+    ensures { λ r. ⌜ r ≡ formed h book results diagnostics ⌝ }
+{
+    agree::header_agrees(h)
+        & agree::book_suits(h, book)
+        & is_complete(h, book, results, diagnostics)
+}
+
+// The checks of a book's first n blocks and of their records.
+fn check_book(cause: u32, book: &[u8], n: u16) -> Outcome
+    requires { ⌜ n ≤ 64 ⌝ }
+    ensures { λ r. ⌜ r ≡ checked cause (now (book .entry)) n ⌝ }
+{
+    let holding = checks::count_holding(book, n);
+    let fails = checks::block_fails(cause, book, n);
+    let back = checks::count_back(book, 21 * n);
+    Outcome {
+        right: (holding == n) & ((cause != 2) | fails) & (back == 21 * n),
+        blocks: holding + fails as u16,
+        records: back,
+    }
+}
+
+// What is found of an answer that is handed over whole. What the slices hold is for the lowering to say; until it is
+// there, their lengths are held to the header.
+pub(crate) fn replay_answer(h: Header, book: &[u8], results: &[u8], diagnostics: &[u8]) -> Outcome
+    ensures { λ r. ⌜ r ≡ outcome h (now (book .entry)) (now (results .entry)) (now (diagnostics .entry)) ⌝ }
+{
+    let formed = is_formed(h, book.len(), results.len(), diagnostics.len());
+    let n = checks::must_hold(h.cause, h.place, agree::block_count(book.len()));
+    let found = check_book(h.cause, book, n);
+    Outcome {
+        right: formed & found.right,
+        blocks: found.blocks,
+        records: found.records,
+    }
+}

@@ -1,0 +1,15 @@
+//! Random signal books, readable ones and damaged ones.
+
+mod damage;
+mod layout;
+mod random;
+mod rng;
+mod shape;
+
+#[cfg(test)]
+mod tests;
+
+pub use damage::{damaged, Damaged};
+pub use layout::{seal, Book, Record};
+pub use random::{lengths, readable};
+pub use rng::Rng;

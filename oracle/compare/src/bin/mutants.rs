@@ -1,0 +1,144 @@
+//! Tries wrong models: for each entry of `mutants.txt` a copy of the workspace gets its edits, is built and run, and something must disagree.
+//! Run in the folder `oracle` by the script `mutants`.
+
+use std::path::{Path, PathBuf};
+use std::process::{Command, Stdio};
+use std::sync::atomic::{AtomicUsize, Ordering};
+use std::sync::Mutex;
+use std::{env, fs};
+
+struct Edit {
+    file: String,
+    old: String,
+    new: String,
+}
+
+#[derive(Default)]
+struct Mutant {
+    name: String,
+    edits: Vec<Edit>,
+    /// Why nothing can tell it from the model, where that is so.
+    same: Option<String>,
+}
+
+/// The entries: paragraphs of a name and edits; a line that starts with `=` says why a mutant is no other model.
+fn mutants(text: &str) -> Vec<Mutant> {
+    let mut all = Vec::new();
+    for paragraph in text.split("\n\n") {
+        let mut lines = paragraph.lines().filter(|l| !l.starts_with('#') && !l.is_empty());
+        let Some(name) = lines.next() else {
+            continue;
+        };
+        let mut m = Mutant { name: name.to_string(), ..Mutant::default() };
+        for line in lines {
+            let joined = |text: &mut String, more: &str| {
+                *text = if text.is_empty() { more.to_string() } else { format!("{text}\n{more}") };
+            };
+            match (line.split_at(line.len().min(2)), m.edits.last_mut()) {
+                (("= ", why), _) => m.same = Some(why.to_string()),
+                (("- ", old), Some(e)) => joined(&mut e.old, old),
+                (("+ ", new), Some(e)) => joined(&mut e.new, new),
+                _ => m.edits.push(Edit { file: line.to_string(), old: String::new(), new: String::new() }),
+            }
+        }
+        all.push(m);
+    }
+    all
+}
+
+/// The text of a file of the model with the edits that it gets, each at the one place where its old text stands.
+fn edited(file: &str, text: &str, m: &Mutant) -> Result<String, String> {
+    let mut places = Vec::new();
+    for e in m.edits.iter().filter(|e| e.file == file) {
+        let found: Vec<usize> = text.match_indices(&e.old).map(|x| x.0).collect();
+        match found[..] {
+            [at] => places.push((at, e)),
+            _ => return Err(format!("{} places have the text: {}", found.len(), e.old)),
+        }
+    }
+    places.sort_by_key(|p| std::cmp::Reverse(p.0));
+    let mut out = text.to_string();
+    places.iter().for_each(|(at, e)| out.replace_range(*at..at + e.old.len(), &e.new));
+    Ok(out)
+}
+
+fn copy(from: &Path, to: &Path) -> std::io::Result<()> {
+    fs::create_dir_all(to)?;
+    for entry in fs::read_dir(from)? {
+        let entry = entry?;
+        let name = entry.file_name();
+        match entry.file_type()?.is_dir() {
+            true if name == "target" || name == "source" => {}
+            true => copy(&entry.path(), &to.join(name))?,
+            false => fs::write(to.join(name), fs::read(entry.path())?)?,
+        }
+    }
+    Ok(())
+}
+
+/// Whether a command of the copy ends well; it is stopped after two minutes, which is a difference too.
+fn ends_well(folder: &Path, program: &str, words: &[&str]) -> bool {
+    let mut command = Command::new("timeout");
+    command.arg("120").arg(program).args(words).current_dir(folder);
+    command.stdout(Stdio::null()).stderr(Stdio::null()).status().is_ok_and(|s| s.success())
+}
+
+/// Tries one mutant in a copy: whether the runs agree, and whether the list of answers holds.
+fn attempt(m: &Mutant, here: &Path, folder: &Path) -> Result<(bool, bool), String> {
+    for entry in fs::read_dir(here.join("model/src")).map_err(|e| e.to_string())?.flatten() {
+        let file = entry.file_name().into_string().unwrap_or_default();
+        if let Ok(text) = fs::read_to_string(entry.path()) {
+            fs::write(folder.join("model/src").join(&file), edited(&file, &text, m)?).map_err(|e| e.to_string())?;
+        }
+    }
+    if !ends_well(folder, "cargo", &["build", "--quiet", "--offline", "--release", "--package", "compare", "--bin", "compare"]) {
+        return Err("it does not compile".to_string());
+    }
+    let list = here.join("../crates/replay");
+    let agree = ends_well(folder, "target/release/compare", &["--books", "4000", "--damaged", "20000", "--seed", "5"]);
+    let holds = ends_well(folder, "target/release/compare", &["answers", "replay", &list.display().to_string()]);
+    Ok((agree, holds))
+}
+
+/// The source for the copies, which do not stand where the workspace does.
+fn source(here: &Path) -> PathBuf {
+    let given = env::var_os("VEXIL_SRC").map(PathBuf::from);
+    let places = [here.join("../docs/src"), here.join("../../shared/docs/src")];
+    given.or(places.into_iter().find(|p| p.is_dir())).unwrap_or_default()
+}
+
+fn main() {
+    let here = env::current_dir().expect("a folder");
+    env::set_var("VEXIL_SRC", source(&here));
+    let wanted: Vec<String> = env::args().skip(1).collect();
+    let mut all = mutants(&fs::read_to_string("mutants.txt").expect("mutants.txt"));
+    all.retain(|m| wanted.is_empty() || wanted.contains(&m.name));
+    let (next, wrong, told) = (AtomicUsize::new(0), Mutex::new(Vec::new()), AtomicUsize::new(0));
+    let work = &|n: usize| {
+        let folder = here.join(format!("target/mutants/{n}"));
+        copy(&here, &folder).expect("a copy of the workspace");
+        while let Some(m) = all.get(next.fetch_add(1, Ordering::Relaxed)) {
+            let (line, fine) = match (attempt(m, &here, &folder), &m.same) {
+                (Err(why), _) => (why, false),
+                (Ok((true, true)), Some(why)) => (format!("no other model: {why}"), true),
+                (Ok((agree, holds)), same) => {
+                    told.fetch_add(!holds as usize, Ordering::Relaxed);
+                    let by = |found: bool| if found { "found" } else { "not found" };
+                    (format!("{} by the runs, {} by the list", by(!agree), by(!holds)), !agree && same.is_none())
+                }
+            };
+            println!("{:42} {line}", m.name);
+            if !fine {
+                wrong.lock().expect("a list").push(m.name.clone());
+            }
+        }
+    };
+    std::thread::scope(|s| (0..2).for_each(|n| {
+        s.spawn(move || work(n));
+    }));
+    let same = all.iter().filter(|m| m.same.is_some()).count();
+    let wrong = wrong.into_inner().expect("a list");
+    println!("{} mutants, {same} of them no other model, {} found by the list; not as they should be: {}", all.len(), told.load(Ordering::Relaxed), wrong.len());
+    wrong.iter().for_each(|name| println!("  {name}"));
+    std::process::exit(!wrong.is_empty() as i32);
+}

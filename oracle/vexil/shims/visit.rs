@@ -1,0 +1,1 @@
+// In the place of the module `ast::visit`, which the lowering never names.

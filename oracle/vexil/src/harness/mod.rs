@@ -1,0 +1,135 @@
+//! A module of `lower.rs`: makes the declarations of an accepted book, calls the lowering in document 01's order, and reads off what it
+//! gives. Name 17 is `N17`, string 17 `S17`, list of inline bits 17 `L17`.
+
+#![warn(warnings)]
+
+use super::*;
+use crate::ast::{
+    AliasDecl, AnnotationArg, MessageDecl, NewtypeDecl, SemanticType, SubByteType, Tombstone,
+    TombstoneArg, TypeParam, UnionDecl, UnionVariant,
+};
+use crate::facts::{self, Lowered};
+use crate::span::Spanned;
+
+mod declarations;
+mod given;
+
+/// A record of the book.
+#[derive(Clone, Copy)]
+struct Record {
+    kind: u8,
+    sub: u8,
+    a: u16,
+    b: u16,
+    c: u16,
+    v: u64,
+    span: Span,
+}
+
+const NONE: u16 = 65_535;
+
+/// The lowering of a book that is accepted. Another one may panic here, or fill the stack.
+pub fn lower_book(book: &[u8]) -> Lowered {
+    let records = records(book);
+    let schema = declarations::schema(&records);
+    let mut ctx = LowerCtx::new();
+    if book[3] == 1 {
+        ctx.wildcard_imports.insert(SmolStr::new("wildcard"));
+    }
+    for r in records.iter().filter(|r| r.kind == 25) {
+        ctx.wildcard_origins.insert(name(r.a), None);
+    }
+    run(&schema, &mut ctx)
+}
+
+/// The calls, in document 01's order, and what each part gives.
+fn run(schema: &Schema, ctx: &mut LowerCtx) -> Lowered {
+    let mut given = Lowered::default();
+    let ids = register_declarations(schema, "", ctx);
+    given.lengths[0] = ctx.registry.len() as u32;
+    for alias in aliases(schema).filter(|a| !a.type_params.is_empty()) {
+        lower_alias(alias, "", ctx);
+    }
+    given.lengths[1] = ctx.registry.len() as u32;
+    for alias in aliases(schema).filter(|a| a.type_params.is_empty()) {
+        let before = ctx.diagnostics.len();
+        lower_alias(alias, "", ctx);
+        given.told[0].push(ctx.diagnostics.len() - before);
+    }
+    given.lengths[2] = ctx.registry.len() as u32;
+    given.diagnostics[0] = given::diagnostics(ctx.diagnostics.drain(..));
+    constants(schema, ctx, &mut given);
+    given.lengths[3] = ctx.registry.len() as u32;
+    bodies(schema, &ids, ctx, &mut given);
+    given.lengths[4] = ctx.registry.len() as u32;
+    given.diagnostics[2] = given::diagnostics(ctx.diagnostics.drain(..));
+    given::registry(schema, &ids, ctx, &mut given);
+    given
+}
+
+/// Constants are handed over as `lower_with_deps` does it, then evaluated.
+fn constants(schema: &Schema, ctx: &mut LowerCtx, given: &mut Lowered) {
+    for decl in &schema.declarations {
+        if let Decl::Const(c) = &decl.node {
+            ctx.const_decls
+                .insert(c.name.node.clone(), (c.clone(), decl.span));
+        }
+    }
+    evaluate_constants(ctx);
+    given.diagnostics[1] = given::diagnostics(ctx.diagnostics.drain(..));
+    // The registry is put back, so that asking for a type again changes nothing.
+    let registry = ctx.registry.clone();
+    for d in given.diagnostics[1].iter().filter(|d| d.message == 5) {
+        let (c, _) = ctx.const_decls[&name(d.name)].clone();
+        let resolved = resolve_type_expr(&c.ty.node, c.ty.span, ctx);
+        given.unstored.push((d.name, given::resolved(&resolved)));
+    }
+    ctx.registry = registry;
+    ctx.diagnostics.clear();
+    given.unstored.sort();
+}
+
+/// Messages, unions and newtypes, each put into its slot of the registry.
+fn bodies(schema: &Schema, ids: &[TypeId], ctx: &mut LowerCtx, given: &mut Lowered) {
+    let mut numbers = ids.iter();
+    for decl in &schema.declarations {
+        if matches!(decl.node, Decl::Message(_) | Decl::Union(_) | Decl::Newtype(_)) {
+            let id = *numbers.next().expect("a number for each declaration");
+            let before = ctx.diagnostics.len();
+            let definition = lower_decl(&decl.node, decl.span, ctx);
+            given.told[1].push(ctx.diagnostics.len() - before);
+            given.bodies.push(given::body(&definition));
+            *ctx.registry.get_mut(id).expect("a slot for each number") = definition;
+        }
+    }
+}
+
+fn aliases(schema: &Schema) -> impl Iterator<Item = &AliasDecl> {
+    schema.declarations.iter().filter_map(|d| match &d.node {
+        Decl::Alias(a) => Some(a),
+        _ => None,
+    })
+}
+
+fn name(n: u16) -> SmolStr {
+    SmolStr::new(format!("N{n}"))
+}
+
+fn records(book: &[u8]) -> Vec<Record> {
+    let number = |s: &[u8]| s.iter().rev().fold(0u64, |n, b| n << 8 | *b as u64);
+    let mut all = Vec::new();
+    for block in book.chunks(512) {
+        for r in block[4..].chunks(24).take(block[2] as usize) {
+            all.push(Record {
+                kind: r[0],
+                sub: r[1],
+                a: number(&r[2..4]) as u16,
+                b: number(&r[4..6]) as u16,
+                c: number(&r[6..8]) as u16,
+                v: number(&r[8..16]),
+                span: Span::new(number(&r[16..20]) as usize, number(&r[20..24]) as usize),
+            });
+        }
+    }
+    all
+}
