@@ -1,5 +1,5 @@
-//! Copies the source of the lowering, unchanged, into `source/`, which git ignores. To `lower.rs` it appends one line, by which the harness
-//! becomes a module of it and so reaches its private functions.
+//! Copies the source of the lowering, unchanged, into `source/`, which git ignores. To `lower.rs` it appends one line,
+//! by which the harness becomes a module of it and so reaches its private functions.
 
 use std::path::{Path, PathBuf};
 use std::{env, fs, process};
@@ -26,11 +26,7 @@ fn main() {
         println!("cargo:rerun-if-changed={}", path.display());
         let mut text = fs::read(&path).unwrap_or_else(|e| stop(&format!("{}: {e}", path.display())));
         if fnv(&text) != hash {
-            stop(&format!(
-                "{} is not the text of commit 0e0a971135 (hash {:#018x})",
-                path.display(),
-                fnv(&text)
-            ));
+            stop(&format!("{} is not the text of commit 0e0a971135 (hash {:#018x})", path.display(), fnv(&text)));
         }
         if name == "lower.rs" {
             text.extend_from_slice(HARNESS.as_bytes());
@@ -42,7 +38,8 @@ fn main() {
     put(&to.join("ast/visit.rs"), &fs::read(here.join("shims/visit.rs")).unwrap());
 }
 
-/// Where the source is: `$VEXIL_SRC`, else the first of `docs/src` and `../shared/docs/src`, seen from the root of the repository.
+/// Where the source is: `$VEXIL_SRC`, else the first of `docs/src` and `../shared/docs/src`, seen from the root of the
+/// repository.
 fn source(root: &Path) -> PathBuf {
     if let Some(given) = env::var_os("VEXIL_SRC") {
         return PathBuf::from(given);

@@ -33,11 +33,7 @@ pub struct Case {
 
 impl Case {
     fn new(bytes: Vec<u8>, expected: Option<(u8, u32)>) -> Case {
-        Case {
-            bytes,
-            lengths: None,
-            expected,
-        }
+        Case { bytes, lengths: None, expected }
     }
 }
 
@@ -66,10 +62,7 @@ pub const BREAKS: [(&str, Break); 88] = [
     ("wrong block number", Whole(blocks::block_number)),
     ("blocks swapped", Whole(blocks::blocks_swapped)),
     ("record count 0", Whole(blocks::no_records)),
-    (
-        "record count below 21 before the last block",
-        Whole(blocks::too_few_records),
-    ),
+    ("record count below 21 before the last block", Whole(blocks::too_few_records)),
     ("record count above 21", Whole(blocks::too_many_records)),
     ("record not counted", Whole(blocks::record_not_counted)),
     ("byte 3 of block 0", Whole(blocks::first_byte_three)),
@@ -77,21 +70,12 @@ pub const BREAKS: [(&str, Break); 88] = [
     ("bytes 508 and 509", Whole(blocks::bytes_before_the_check)),
     ("unused place not zero", Whole(blocks::unused_place)),
     ("block of zeros with its check", Whole(blocks::empty_block)),
-    (
-        "block rule, wrong check in a later block",
-        Whole(blocks::rule_before_check),
-    ),
-    (
-        "records broken before a block",
-        Whole(blocks::records_before_block),
-    ),
+    ("block rule, wrong check in a later block", Whole(blocks::rule_before_check)),
+    ("records broken before a block", Whole(blocks::records_before_block)),
     ("unknown kind", Record(4, records::unknown_kind)),
     ("zero record counted", Record(4, records::zero_record)),
     ("sub past the last", Record(4, records::sub_past_the_last)),
-    (
-        "sub of a kind without subs",
-        Record(4, records::sub_where_none_is),
-    ),
+    ("sub of a kind without subs", Record(4, records::sub_where_none_is)),
     ("unused a", Record(4, records::unused_a)),
     ("unused b", Record(4, records::unused_b)),
     ("unused c", Record(4, records::unused_c)),
@@ -101,117 +85,54 @@ pub const BREAKS: [(&str, Break); 88] = [
     ("none for a string", Record(4, records::none_for_a_string)),
     ("bits above 255", Record(4, records::too_many_bits)),
     ("Bool above 1", Record(4, records::bool_above_one)),
-    (
-        "ordinal above 2^32 - 1",
-        Record(4, records::ordinal_too_high),
-    ),
+    ("ordinal above 2^32 - 1", Record(4, records::ordinal_too_high)),
     ("length flag above 1", Record(4, records::flag_above_one)),
-    (
-        "fields 4 and children 5",
-        Record(4, records::field_and_child),
-    ),
-    (
-        "fields 4 and follow rule 6",
-        Record(4, order::field_and_follow),
-    ),
+    ("fields 4 and children 5", Record(4, records::field_and_child)),
+    ("fields 4 and follow rule 6", Record(4, order::field_and_follow)),
     ("fields 4 and name 7", Record(4, order::field_and_name)),
     ("fields 4 and depth 8", Record(4, depth::field_and_depth)),
     ("child is itself", Record(5, records::child_itself)),
     ("child later", Record(5, records::child_later)),
     ("child past the end", Record(5, records::child_past_the_end)),
     ("child none", Record(5, records::child_none)),
-    (
-        "child of a wrong group",
-        Record(5, records::child_of_a_wrong_group),
-    ),
+    ("child of a wrong group", Record(5, records::child_of_a_wrong_group)),
     ("child of another", Record(5, records::child_of_another)),
     ("child twice in one record", Record(5, records::child_twice)),
-    (
-        "children 5 and follow rule 6",
-        Record(5, order::child_and_follow),
-    ),
+    ("children 5 and follow rule 6", Record(5, order::child_and_follow)),
     ("children 5 and name 7", Record(5, order::child_and_name)),
     ("children 5 and depth 8", Record(5, depth::child_and_depth)),
-    (
-        "30 not after 23 or 30",
-        Record(6, |rng| order::misplaced(rng, Why::Parameter)),
-    ),
-    (
-        "31 or 32 without a body",
-        Record(6, |rng| order::misplaced(rng, Why::NoBody)),
-    ),
-    (
-        "31 or 32 before a variant",
-        Record(6, |rng| order::misplaced(rng, Why::NoVariant)),
-    ),
-    (
-        "31 or 32 after 32 sub 1",
-        Record(6, |rng| order::misplaced(rng, Why::AfterOwnTombstone)),
-    ),
-    (
-        "32 sub 1 or 33 outside a union",
-        Record(6, |rng| order::misplaced(rng, Why::NoUnion)),
-    ),
-    (
-        "34 in a wrong place",
-        Record(6, |rng| order::misplaced(rng, Why::Annotation)),
-    ),
-    (
-        "35 in a wrong place",
-        Record(6, |rng| order::misplaced(rng, Why::Argument)),
-    ),
-    (
-        "36 in a wrong place",
-        Record(6, |rng| order::misplaced(rng, Why::TombstoneArgument)),
-    ),
+    ("30 not after 23 or 30", Record(6, |rng| order::misplaced(rng, Why::Parameter))),
+    ("31 or 32 without a body", Record(6, |rng| order::misplaced(rng, Why::NoBody))),
+    ("31 or 32 before a variant", Record(6, |rng| order::misplaced(rng, Why::NoVariant))),
+    ("31 or 32 after 32 sub 1", Record(6, |rng| order::misplaced(rng, Why::AfterOwnTombstone))),
+    ("32 sub 1 or 33 outside a union", Record(6, |rng| order::misplaced(rng, Why::NoUnion))),
+    ("34 in a wrong place", Record(6, |rng| order::misplaced(rng, Why::Annotation))),
+    ("35 in a wrong place", Record(6, |rng| order::misplaced(rng, Why::Argument))),
+    ("36 in a wrong place", Record(6, |rng| order::misplaced(rng, Why::TombstoneArgument))),
     ("20 to 23 declared again", Record(7, order::type_again)),
     ("24 declared again", Record(7, order::constant_again)),
     ("25 declared again", Record(7, order::ambiguous_again)),
     ("type of depth 65", Record(8, depth::deep_type)),
     ("expression of depth 65", Record(8, depth::deep_expression)),
     ("constraint of depth 65", Record(8, depth::deep_constraint)),
-    (
-        "65 steps in an alias",
-        Whole(|rng| lowering::steps(rng, User::Alias)),
-    ),
-    (
-        "65 steps in a constant",
-        Whole(|rng| lowering::steps(rng, User::Constant)),
-    ),
-    (
-        "65 steps in a newtype",
-        Whole(|rng| lowering::steps(rng, User::Newtype)),
-    ),
-    (
-        "65 steps in a field",
-        Whole(|rng| lowering::steps(rng, User::Field)),
-    ),
-    (
-        "65 steps in a tombstone",
-        Whole(|rng| lowering::steps(rng, User::Tombstone)),
-    ),
+    ("65 steps in an alias", Whole(|rng| lowering::steps(rng, User::Alias))),
+    ("65 steps in a constant", Whole(|rng| lowering::steps(rng, User::Constant))),
+    ("65 steps in a newtype", Whole(|rng| lowering::steps(rng, User::Newtype))),
+    ("65 steps in a field", Whole(|rng| lowering::steps(rng, User::Field))),
+    ("65 steps in a tombstone", Whole(|rng| lowering::steps(rng, User::Tombstone))),
     ("ring of generics", Whole(lowering::ring)),
     ("9 before 10", Whole(lowering::deep_before_full)),
     ("10 before 9", Whole(lowering::full_before_deep)),
     ("results short: newtypes", Whole(lowering::newtypes)),
     ("results short: constants", Whole(lowering::constants)),
     ("results short: items", Whole(lowering::items)),
-    (
-        "results short: aliases first",
-        Whole(lowering::aliases_first),
-    ),
+    ("results short: aliases first", Whole(lowering::aliases_first)),
     ("results short: copies", Whole(lowering::copies)),
     ("diagnostics short", Whole(lowering::diagnostics)),
     ("diagnostics above 256", Whole(lowering::diagnostics_full)),
     ("both short", Whole(lowering::both)),
-    (
-        "bit flipped, check repaired",
-        Whole(noise::flipped_and_sealed),
-    ),
-    (
-        "bit of a record flipped, check repaired",
-        Whole(noise::record_flipped),
-    ),
+    ("bit flipped, check repaired", Whole(noise::flipped_and_sealed)),
+    ("bit of a record flipped, check repaired", Whole(noise::record_flipped)),
     ("random records", Whole(noise::random_records)),
     ("records wrecked", Whole(noise::wrecked)),
     ("records rearranged", Whole(noise::rearranged)),
@@ -226,13 +147,7 @@ pub fn damaged(rng: &mut Rng) -> Damaged {
         Record(cause, make) => recorded(rng, *cause, *make),
     };
     let (results, diagnostics) = case.lengths.unwrap_or_else(|| lengths(rng));
-    Damaged {
-        bytes: case.bytes,
-        results,
-        diagnostics,
-        expected: case.expected,
-        what,
-    }
+    Damaged { bytes: case.bytes, results, diagnostics, expected: case.expected, what }
 }
 
 /// The case of a broken record, in a third of all cases with broken ones behind it.

@@ -86,10 +86,7 @@ impl Book {
 
     /// The book in these bytes, where the rules of length and of blocks hold. Checks are not looked at.
     pub fn read(bytes: &[u8]) -> Option<Book> {
-        if bytes.is_empty()
-            || !bytes.len().is_multiple_of(BLOCK)
-            || bytes.len() > MOST_BLOCKS * BLOCK
-        {
+        if bytes.is_empty() || !bytes.len().is_multiple_of(BLOCK) || bytes.len() > MOST_BLOCKS * BLOCK {
             return None;
         }
         let blocks = bytes.len() / BLOCK;
@@ -108,8 +105,7 @@ impl Book {
                 return None;
             }
             book.wildcards |= block[3] == 1;
-            book.records
-                .extend(block[4..end].chunks(RECORD).map(Record::read));
+            book.records.extend(block[4..end].chunks(RECORD).map(Record::read));
         }
         Some(book)
     }
@@ -117,10 +113,7 @@ impl Book {
 
 /// The right check of a block of 512 bytes.
 pub fn check(block: &[u8]) -> u16 {
-    let mut sum: u32 = block[..510]
-        .chunks(2)
-        .map(|pair| u32::from(pair[0]) << 8 | u32::from(pair[1]))
-        .sum();
+    let mut sum: u32 = block[..510].chunks(2).map(|pair| u32::from(pair[0]) << 8 | u32::from(pair[1])).sum();
     while sum > 0xFFFF {
         sum = (sum & 0xFFFF) + (sum >> 16);
     }

@@ -1,5 +1,6 @@
 //! Random signal books, readable ones and damaged ones.
 
+mod counting;
 mod damage;
 mod layout;
 mod random;
@@ -9,6 +10,7 @@ mod shape;
 #[cfg(test)]
 mod tests;
 
+pub use counting::counted;
 pub use damage::{damaged, Damaged};
 pub use layout::{seal, Book, Record};
 pub use random::{lengths, readable};

@@ -81,9 +81,7 @@ pub const KINDS: [(u8, u8); 29] = [
 
 /// Every kind with every sub.
 pub fn pairs() -> impl Iterator<Item = (u8, u8)> {
-    KINDS
-        .iter()
-        .flat_map(|&(kind, subs)| (0..subs).map(move |sub| (kind, sub)))
+    KINDS.iter().flat_map(|&(kind, subs)| (0..subs).map(move |sub| (kind, sub)))
 }
 
 /// The group a record belongs to as a child.
@@ -114,10 +112,7 @@ pub fn shape(kind: u8, sub: u8) -> Option<Shape> {
         (10, 0..=3) => ([Unused; 3], Value::Any),
         (10, 4) => ([Unused; 3], Value::Bool),
         (12, 0..=9) => ([Child(Constant), Child(Constant), Unused], Value::Unused),
-        (13, 0..=1) => (
-            [Child(Constraint), Child(Constraint), Unused],
-            Value::Unused,
-        ),
+        (13, 0..=1) => ([Child(Constraint), Child(Constraint), Unused], Value::Unused),
         (13, 2) => ([Child(Constraint), Unused, Unused], Value::Unused),
         (14, 0..=5) => ([Child(Operand), Unused, Flag], Value::Unused),
         (15, 0..=1) => ([Child(Operand), Child(Operand), Flag], Value::Unused),

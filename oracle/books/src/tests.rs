@@ -1,7 +1,6 @@
 //! Tests of the generator.
 
 mod coverage;
-mod lowering;
 mod reader;
 
 use std::collections::BTreeMap;
@@ -11,7 +10,7 @@ use crate::layout::{check, Book, Record, BLOCK, MOST_RECORDS};
 use crate::random::{lengths, readable, themed, FULL, THEMES};
 use crate::rng::Rng;
 
-use lowering::lower;
+use crate::counting::counted;
 use reader::{block_holds, sum_holds, verdict};
 
 #[test]
@@ -23,18 +22,9 @@ fn books_of_every_theme_are_readable() {
             let bytes = book.bytes();
             let blocks = bytes.len() / BLOCK;
             for (number, block) in bytes.chunks(BLOCK).enumerate() {
-                assert!(
-                    sum_holds(block) && block_holds(block, number, blocks),
-                    "{}",
-                    theme.name
-                );
+                assert!(sum_holds(block) && block_holds(block, number, blocks), "{}", theme.name);
             }
-            assert_eq!(
-                verdict(&bytes),
-                Ok((book.wildcards, book.records.clone())),
-                "{}",
-                theme.name
-            );
+            assert_eq!(verdict(&bytes), Ok((book.wildcards, book.records.clone())), "{}", theme.name);
         }
     }
 }
@@ -45,8 +35,7 @@ fn about_nine_in_ten_are_accepted() {
     let mut outcomes: BTreeMap<u8, usize> = BTreeMap::new();
     for _ in 0..3_000 {
         let book = readable(&mut rng);
-        let outcome =
-            lower(book.wildcards, &book.records, FULL).map_or_else(|refused| refused.0, |_| 0);
+        let outcome = counted(book.wildcards, &book.records, FULL).map_or_else(|refused| refused.0, |_| 0);
         *outcomes.entry(outcome).or_default() += 1;
     }
     assert!((2_600..2_940).contains(&outcomes[&0]), "{outcomes:?}");
@@ -77,10 +66,7 @@ fn layout_by_hand() {
     let bytes: Vec<u8> = (1..=24).collect();
     assert_eq!(record.bytes()[..], bytes);
     assert_eq!(Record::read(&bytes), record);
-    let book = Book {
-        wildcards: true,
-        records: vec![record; MOST_RECORDS + 22],
-    };
+    let book = Book { wildcards: true, records: vec![record; MOST_RECORDS + 22] };
     let bytes = book.bytes();
     assert_eq!(bytes.len(), 66 * BLOCK);
     assert_eq!(bytes[..4], [0, 0, 21, 1]);
@@ -116,9 +102,8 @@ fn damages_are_what_they_say() {
             continue;
         };
         *causes.entry(expected.0).or_default() += 1;
-        let found = verdict(&case.bytes).and_then(|(wildcards, records)| {
-            lower(wildcards, &records, (case.results, case.diagnostics))
-        });
+        let found = verdict(&case.bytes)
+            .and_then(|(wildcards, records)| counted(wildcards, &records, (case.results, case.diagnostics)));
         assert_eq!(found, Err(expected), "{}", case.what);
     }
     for cause in 1..=10 {

@@ -15,13 +15,14 @@ fn same<T: PartialEq + std::fmt::Debug>(what: &str, ours: &T, theirs: &T) -> Fou
     Err(format!("{what}\n  answer: {ours:?}\n  Rust:   {theirs:?}"))
 }
 
-/// Document 01: "Wildcard books where one constant's type stubs a name that another's uses as namespace or generic head aren't compared".
+/// Document 01: "Wildcard books where one constant's type stubs a name that another's uses as namespace or generic head
+/// aren't compared".
 pub fn compared(trace: &Trace) -> bool {
     !trace.asked.iter().any(|(by, name)| trace.bare.iter().any(|(other, n)| n == name && other != by))
 }
 
-/// Whether the type of an unstored constant is the same if it is asked for again: no name is both stubbed by the constants and asked for as
-/// namespace or head among them.
+/// Whether the type of an unstored constant is the same if it is asked for again: no name is both stubbed by the
+/// constants and asked for as namespace or head among them.
 fn settled(trace: &Trace) -> bool {
     !trace.asked.iter().any(|(_, name)| trace.bare.iter().any(|(_, n)| n == name))
 }
@@ -29,6 +30,7 @@ fn settled(trace: &Trace) -> bool {
 /// Holds the result and diagnostic records of an accepted book to the Rust's lowering of it.
 pub fn agree(book: &Book, results: &[Record], diagnostics: &[Record], trace: &Trace, mut rust: Lowered) -> Found {
     let mut ours = results::read(results)?;
+    in_book_order(book, results)?;
     same("registry length after each part", &trace.numbers, &rust.lengths)?;
     numbers(book, &rust)?;
     reached(book, &ours, &rust)?;
@@ -42,6 +44,19 @@ pub fn agree(book: &Book, results: &[Record], diagnostics: &[Record], trace: &Tr
     constants(&ours, &rust)?;
     same("bodies", &ours.bodies, &rust.bodies)?;
     messages(&results::diagnostics(diagnostics)?, trace, &rust, one)
+}
+
+/// Bodies and their items stand in book order, each with the span of its own record. The Rust keeps fields and tombstones
+/// in lists of their own, so it cannot tell this.
+fn in_book_order(book: &Book, results: &[Record]) -> Found {
+    let given: Vec<_> =
+        results.iter().filter(|r| matches!(r.kind, 42..=45 | 47 | 48)).map(|r| (r.kind, r.offset, r.len)).collect();
+    let kinds = [(20, 42), (21, 43), (33, 44), (31, 45), (32, 47), (22, 48)];
+    let items = book.records.iter().filter_map(|r| {
+        let of = kinds.iter().find(|k| k.0 == r.kind)?;
+        Some((of.1, r.offset, r.len))
+    });
+    same("bodies and items in book order", &given, &items.collect())
 }
 
 /// "20-22 numbered from 0, then generic aliases, then stubs as met".
@@ -70,7 +85,8 @@ fn aliases(book: &Book, ours: &Results, rust: &Lowered) -> Found {
     same("spans of plain aliases", &ours.aliases.iter().map(|a| a.span).collect(), &spans)
 }
 
-/// Which constants are reached, in the order that document 01 fixes, with the book's spans; those without a value are those of message 5.
+/// Which constants are reached, in the order that document 01 fixes, with the book's spans; those without a value are
+/// those of message 5.
 fn reached(book: &Book, ours: &Results, rust: &Lowered) -> Found {
     let order: Vec<_> = order(book).into_iter().map(|r| (r.a, (r.offset, r.len))).collect();
     same("order and spans of constants", &ours.reached.iter().map(|c| (c.name, c.span)).collect(), &order)?;
@@ -105,9 +121,9 @@ fn order(book: &Book) -> Vec<Record> {
     let mut done = HashSet::new();
     let mut order = Vec::new();
     let twice = |refs: &Vec<u16>| refs.iter().collect::<HashSet<_>>().len() < refs.len();
-    while let Some(i) = (0..declared.len()).find(|i| {
-        !done.contains(&declared[*i].a) && !twice(&named[*i]) && named[*i].iter().all(|n| done.contains(n))
-    }) {
+    while let Some(i) = (0..declared.len())
+        .find(|i| !done.contains(&declared[*i].a) && !twice(&named[*i]) && named[*i].iter().all(|n| done.contains(n)))
+    {
         done.insert(declared[i].a);
         order.push(declared[i]);
     }
@@ -141,8 +157,8 @@ fn messages(ours: &[Diagnostic], trace: &Trace, rust: &Lowered, one: bool) -> Fo
     same("diagnostics of bodies", &ours[constants..bodies].to_vec(), &rust.diagnostics[2])
 }
 
-/// Gives the stubs of the Rust's constants the numbers that they have in the answer. Which is which shows where they are used; no two may
-/// become one, and all other numbers stay.
+/// Gives the stubs of the Rust's constants the numbers that they have in the answer. Which is which shows where they
+/// are used; no two may become one, and all other numbers stay.
 fn renumber(ours: &Results, rust: &mut Lowered, part: std::ops::Range<u32>) -> Found {
     let theirs = named_by(rust);
     let ours = named_of(ours);

@@ -1,4 +1,5 @@
-//! The list of answers: books with lent lengths, the reply, and what both slices hold at exit. docs/ANSWERS.md describes the file.
+//! The list of answers: books with lent lengths, the reply, and what both slices hold at exit. docs/ANSWERS.md
+//! describes the file.
 
 use crate::counts::Counts;
 use crate::judge::{self, judge, lent_diagnostics, lent_results, MOST_DIAGNOSTICS, MOST_RESULTS};
@@ -12,7 +13,8 @@ use std::fs;
 const MAGIC: &[u8; 8] = b"answers\n";
 const HEADER: usize = 64;
 
-/// One answer: a book, the lengths of the slices, the reply, and the bytes written at the front of each slice if the book is accepted.
+/// One answer: a book, the lengths of the slices, the reply, and the bytes written at the front of each slice if the
+/// book is accepted.
 #[derive(PartialEq, Eq)]
 struct Answer {
     name: String,
@@ -98,7 +100,8 @@ fn take<'a>(list: &mut &'a [u8], n: usize) -> Option<&'a [u8]> {
     Some(front)
 }
 
-/// All books of the list: those with names, one of each damage, and readable ones chosen so that every rare thing comes.
+/// All books of the list: those with names, one of each damage, and readable ones chosen so that every rare thing
+/// comes.
 fn chosen() -> Vec<Named> {
     let mut all = named::all();
     for mut n in damages() {
@@ -122,7 +125,12 @@ fn damages() -> Vec<Named> {
         let d = books::damaged(&mut Rng::new(n));
         if d.bytes.len() <= 3 * 512 {
             let name = short(d.what);
-            kept.entry(d.what).or_insert(Named { name, bytes: d.bytes, lent: (d.results, d.diagnostics), expected: None });
+            kept.entry(d.what).or_insert(Named {
+                name,
+                bytes: d.bytes,
+                lent: (d.results, d.diagnostics),
+                expected: None,
+            });
         }
     }
     kept.into_values().collect()
@@ -156,7 +164,8 @@ fn readables() -> Vec<Named> {
     kept
 }
 
-/// Kinds and subs of the book and its results, messages, which kind stands behind which, and which encoding comes behind which kind of type.
+/// Kinds and subs of the book and its results, messages, which kind stands behind which, and which encoding comes
+/// behind which kind of type.
 fn shows(book: &Book) -> Vec<(&'static str, u32, u32)> {
     let mut counts = Counts::default();
     counts.book(book);
@@ -207,7 +216,9 @@ fn list() -> (Vec<u8>, String, Vec<Answer>) {
 /// Makes both files.
 pub fn make(folder: &str) -> Result<String, String> {
     let (bytes, says, _) = list();
-    let put = |name: &str, text: &[u8]| fs::write(format!("{folder}/{name}"), text).map_err(|e| format!("{folder}/{name}: {e}"));
+    let put = |name: &str, text: &[u8]| {
+        fs::write(format!("{folder}/{name}"), text).map_err(|e| format!("{folder}/{name}: {e}"))
+    };
     put("stdin", &bytes)?;
     put("stdout", says.as_bytes())?;
     Ok(format!("{} bytes\n{says}", bytes.len()))
@@ -267,7 +278,9 @@ pub fn show(folder: &str, name: Option<&str>) -> Result<String, String> {
     let answers = read(folder)?;
     let line = |a: &Answer| {
         let reply = match a.reply {
-            Reply::Accepted { results, diagnostics, constants } => format!("accepted {results} {diagnostics} {constants}"),
+            Reply::Accepted { results, diagnostics, constants } => {
+                format!("accepted {results} {diagnostics} {constants}")
+            }
             Reply::Refused { number, place } => format!("refused {number} {place}"),
         };
         format!("{:24} {:6} {:6} {:5}  {reply}\n", a.name, a.book.len(), a.lent.0, a.lent.1)

@@ -1,5 +1,5 @@
-//! One book with two lent lengths: the model's answer is held to the rows, to what is known by construction, to the laws of lent slices and,
-//! where the book is accepted, to the Rust.
+//! One book with two lent lengths: the model's answer is held to the rows, to what is known by construction, to the
+//! laws of lent slices and, where the book is accepted, to the Rust.
 
 use crate::{agree, results, rows};
 use books::{Book, Record};
@@ -65,7 +65,9 @@ pub fn judge(book: &[u8], results: usize, diagnostics: usize, expected: Option<(
     if let Reply::Refused { number: 1..=8, .. } = reply {
         return Err(format!("{reply:?}, but no row holds"));
     }
+    counted(book, &lent)?;
     let full = full(book)?;
+    counted(book, &full)?;
     let rust = lowered(book, &full)?;
     let compared = rust.is_some();
     slices(book, &lent, &full, rust.as_ref())?;
@@ -80,6 +82,19 @@ fn same(what: &str, ours: Reply, expected: Reply) -> Result<(), String> {
         return Ok(());
     }
     Err(format!("{what}: {expected:?}, but the model says {ours:?}"))
+}
+
+/// The three counts, or 9 or 10 with its place, as they are counted apart from the model.
+fn counted(book: &[u8], run: &Run) -> Result<(), String> {
+    let book = Book::read(book).ok_or("a book that is not read back")?;
+    let reply = match books::counted(book.wildcards, &book.records, (run.results.len(), run.diagnostics.len())) {
+        Ok((results, diagnostics, constants)) => {
+            let [results, diagnostics, constants] = [results, diagnostics, constants].map(|n| n as u32);
+            Reply::Accepted { results, diagnostics, constants }
+        }
+        Err((number, place)) => Reply::Refused { number, place },
+    };
+    same("by counting", run.reply, reply)
 }
 
 /// What the Rust makes of a book, where there is something to compare.
@@ -175,7 +190,8 @@ fn short(
     }
 }
 
-/// 10 stands at the item whose result found no room, or in the declaration whose diagnostic did, whichever is met first.
+/// 10 stands at the item whose result found no room, or in the declaration whose diagnostic did, whichever is met
+/// first.
 fn ten(records: &[Record], place: u32, result: Option<u32>, diagnostic: Option<(u8, u32)>) -> Result<(), String> {
     let here = declaration(records, place);
     let by_result = result == Some(place);
@@ -231,13 +247,15 @@ fn owner(written: &[Record], n: usize, records: &[Record]) -> Option<u32> {
     }
 }
 
-/// Kind and record number of the declaration that gives diagnostic d, as the Rust tells it. Of constants only the kind is known.
+/// Kind and record number of the declaration that gives diagnostic d, as the Rust tells it. Of constants only the kind
+/// is known.
 fn teller(records: &[Record], d: usize, full: &Run, rust: Option<&Lowered>) -> Option<(u8, u32)> {
     let rust = rust?;
     let places = |kinds: &[u8], plain: bool| -> Vec<u32> {
         let items: Vec<usize> = (0..records.len()).filter(|i| records[*i].kind >= 20).collect();
         let generic = |k: usize| items.get(k + 1).is_some_and(|i| records[*i].kind == 30);
-        let chosen = items.iter().enumerate().filter(|(k, i)| kinds.contains(&records[**i].kind) && !(plain && generic(*k)));
+        let chosen =
+            items.iter().enumerate().filter(|(k, i)| kinds.contains(&records[**i].kind) && !(plain && generic(*k)));
         chosen.map(|(_, i)| *i as u32).collect()
     };
     let [_, _, aliases, constants, all] = full.trace.diagnostics.map(|n| n as usize);

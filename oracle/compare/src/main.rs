@@ -3,6 +3,8 @@
 mod agree;
 mod answers;
 mod counts;
+#[cfg(test)]
+mod differences;
 mod judge;
 mod named;
 mod results;
@@ -105,13 +107,23 @@ fn generator(seed: u64, kind: u64, n: u64) -> Rng {
     Rng::new(seed.wrapping_mul(0x9e37_79b9_7f4a_7c15) ^ (kind << 56) ^ n)
 }
 
+/// Lengths around those that a book fills: a byte or a record too short, just enough, a byte or nearly a record more.
+fn around(bytes: &[u8], rng: &mut Rng) -> (usize, usize) {
+    let (results, diagnostics) = match judge::full(bytes).map(|run| run.reply) {
+        Ok(Reply::Accepted { results, diagnostics, .. }) => (results as usize, diagnostics as usize),
+        _ => (judge::MOST_RESULTS, judge::MOST_DIAGNOSTICS),
+    };
+    let mut near = |records: usize| 24 * records - 24 + *rng.pick(&[0, 1, 23, 24, 24, 24, 25, 47]);
+    (near(results.max(1)), near(diagnostics.max(1)))
+}
+
 /// Readable books, until enough accepted ones have been compared with the Rust.
 fn readable(o: &Options, next: &AtomicU64, enough: &AtomicU64, tally: &mut Tally) {
     while enough.load(Ordering::Relaxed) < o.books {
         let mut rng = generator(o.seed, 1, next.fetch_add(1, Ordering::Relaxed));
         let book = books::readable(&mut rng);
-        let lent = books::lengths(&mut rng);
         let bytes = book.bytes();
+        let lent = if rng.chance(2) { around(&bytes, &mut rng) } else { books::lengths(&mut rng) };
         tally.generated += 1;
         match judge(&bytes, lent.0, lent.1, None) {
             Ok(outcome) => {
@@ -160,7 +172,13 @@ fn named_books(tally: &mut Tally) -> usize {
         });
         if let Err(why) = judged {
             println!("{}: {why}", n.name);
-            tally.disagrees(Disagreement { bytes: n.bytes.clone(), lent: n.lent, expected: None, what: n.name.clone(), why });
+            tally.disagrees(Disagreement {
+                bytes: n.bytes.clone(),
+                lent: n.lent,
+                expected: None,
+                what: n.name.clone(),
+                why,
+            });
         }
     }
     all.len()

@@ -1,5 +1,5 @@
-//! Reads the records of an accepted book back into what they say, and holds them to document 01's layout on the way: every field, "children
-//! first, left before right, never shared", 46 behind its 45, nothing left over.
+//! Reads the records of an accepted book back into what they say, and holds them to document 01's layout on the way:
+//! every field, "children first, left before right, never shared", 46 behind its 45, nothing left over.
 
 use books::Record;
 use vexil::facts::{Body, Constraint, Diagnostic, Encoding, Field, Operand, Span, Tombstone, Type, Variant};
@@ -91,7 +91,7 @@ impl Reader {
             1..=4 | 7..=9 => self.resolved(n, r),
             13..=16 => self.constraint(n, r),
             40 | 41 | 48 => self.over_type(n, r),
-            42 | 43 | 44 => self.opens(r),
+            42..=44 => self.opens(r),
             45 => self.field(n, r),
             46 => self.encoding(r),
             47 => self.tombstone(n, r),

@@ -1,5 +1,5 @@
-//! Causes 1 to 8 as rows of a table: what each kind's fields may be, and for each cause a test of one record against those before it. Written
-//! beside the model and apart from it, so that each is a check of the other.
+//! Causes 1 to 8 as rows of a table: what each kind's fields may be, and for each cause a test of one record against
+//! those before it. Written beside the model and apart from it, so that each is a check of the other.
 
 use books::Record;
 use std::collections::HashSet;
@@ -198,9 +198,8 @@ fn wanted(r: &Record) -> Vec<(u16, Group)> {
 /// Cause 5: `used` holds the children of all records before.
 fn child_fault(records: &[Record], at: usize, used: &HashSet<u16>) -> bool {
     let all = wanted(&records[at]);
-    let fault = |(k, g): &(u16, Group)| {
-        *k as usize >= at || group(records[*k as usize].kind) != Some(*g) || used.contains(k)
-    };
+    let fault =
+        |(k, g): &(u16, Group)| *k as usize >= at || group(records[*k as usize].kind) != Some(*g) || used.contains(k);
     all.iter().any(fault) || (all.len() == 2 && all[0].0 == all[1].0)
 }
 
@@ -286,7 +285,7 @@ fn block_fault(number: usize, last: bool, block: &[u8]) -> bool {
 
 /// The first of causes 1 to 8, by number and place.
 pub fn first(book: &[u8]) -> Option<(u8, u32)> {
-    if book.is_empty() || book.len() > 32_768 || book.len() % 512 != 0 {
+    if book.is_empty() || book.len() > 32_768 || !book.len().is_multiple_of(512) {
         return Some((1, 0));
     }
     let blocks = book.len() / 512;

@@ -4,8 +4,8 @@ use crate::judge::judge;
 use crate::{rows, Disagreement};
 use books::{Book, Record};
 
-/// Drops records as long as something still disagrees. What is known by construction is not known of a smaller book, so a disagreement with
-/// that alone is left as it is.
+/// Drops records as long as something still disagrees. What is known by construction is not known of a smaller book, so
+/// a disagreement with that alone is left as it is.
 pub fn shrink(mut d: Disagreement) -> Disagreement {
     let Some(mut book) = Book::read(&d.bytes).filter(|b| b.bytes() == d.bytes) else {
         return d;
@@ -51,7 +51,10 @@ fn without(book: &Book, at: usize, size: usize) -> Book {
 
 /// A record in one line.
 pub fn line(n: usize, r: &Record) -> String {
-    format!("  {n:4}  kind {} sub {}  a {} b {} c {}  v {}  span {} {}", r.kind, r.sub, r.a, r.b, r.c, r.v, r.offset, r.len)
+    format!(
+        "  {n:4}  kind {} sub {}  a {} b {} c {}  v {}  span {} {}",
+        r.kind, r.sub, r.a, r.b, r.c, r.v, r.offset, r.len
+    )
 }
 
 pub fn print(d: Disagreement) {

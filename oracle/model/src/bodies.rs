@@ -36,17 +36,11 @@ fn field_encoding(notes: &[Record]) -> Encoding {
     } else {
         Base::Default
     };
-    Encoding {
-        base,
-        delta: has(notes, DELTA),
-        limit: limit(notes),
-    }
+    Encoding { base, delta: has(notes, DELTA), limit: limit(notes) }
 }
 
 fn has(notes: &[Record], annotation: u8) -> bool {
-    notes
-        .iter()
-        .any(|note| note.kind == 34 && note.sub == annotation)
+    notes.iter().any(|note| note.kind == 34 && note.sub == annotation)
 }
 
 /// "Limit is the first keyless Int or Hex in the first limit annotation having one": so the first
@@ -70,30 +64,16 @@ fn under_message_delta(encoding: Encoding, resolved: Record) -> Encoding {
         return encoding;
     }
     match (resolved.kind, resolved.sub) {
-        (1, 1..=4) => Encoding {
-            delta: true,
-            base: Base::Varint,
-            ..encoding
-        },
-        (1, 5..=8) => Encoding {
-            delta: true,
-            base: Base::Zigzag,
-            ..encoding
-        },
-        (1, 9..=12) | (2, _) => Encoding {
-            delta: true,
-            ..encoding
-        },
+        (1, 1..=4) => Encoding { delta: true, base: Base::Varint, ..encoding },
+        (1, 5..=8) => Encoding { delta: true, base: Base::Zigzag, ..encoding },
+        (1, 9..=12) | (2, _) => Encoding { delta: true, ..encoding },
         _ => encoding,
     }
 }
 
 /// The first string under a key of a tombstone (36), or none.
 fn first_string(notes: &[Record], key: u8) -> u16 {
-    notes
-        .iter()
-        .find(|note| note.sub == key && note.a != NONE)
-        .map_or(NONE, |note| note.a)
+    notes.iter().find(|note| note.sub == key && note.a != NONE).map_or(NONE, |note| note.a)
 }
 
 impl Lowering<'_> {
@@ -126,11 +106,7 @@ impl Lowering<'_> {
     /// "48 newtype with the fields of [...] 22", behind its type.
     fn lower_newtype(&mut self, record: Record) -> Result<(), Refusal> {
         let b = self.resolve_type(record.b)?;
-        self.write_result(Record {
-            kind: 48,
-            b,
-            ..record
-        })?;
+        self.write_result(Record { kind: 48, b, ..record })?;
         Ok(())
     }
 
@@ -152,24 +128,10 @@ impl Lowering<'_> {
     }
 
     /// "an item's type, then its constraint, precede it; 46 follows its 45."
-    fn lower_field(
-        &mut self,
-        record: Record,
-        notes: &[Record],
-        message_delta: bool,
-    ) -> Result<(), Refusal> {
+    fn lower_field(&mut self, record: Record, notes: &[Record], message_delta: bool) -> Result<(), Refusal> {
         let b = self.resolve_type(record.b)?;
-        let c = if record.c == NONE {
-            NONE
-        } else {
-            self.lower_constraint(record.c)?
-        };
-        self.write_result(Record {
-            kind: 45,
-            b,
-            c,
-            ..record
-        })?;
+        let c = if record.c == NONE { NONE } else { self.lower_constraint(record.c)? };
+        self.write_result(Record { kind: 45, b, c, ..record })?;
         let mut encoding = field_encoding(notes);
         if message_delta {
             encoding = under_message_delta(encoding, self.results()[usize::from(b)]);
@@ -214,19 +176,9 @@ impl Lowering<'_> {
     /// "47 tombstone (a reason, b since, rest as 32)"; "reason and since are the first string under
     /// each key; none as reason stands for '(no reason)'."
     fn lower_tombstone(&mut self, record: Record, notes: &[Record]) -> Result<(), Refusal> {
-        let c = if record.c == NONE {
-            NONE
-        } else {
-            self.resolve_type(record.c)?
-        };
+        let c = if record.c == NONE { NONE } else { self.resolve_type(record.c)? };
         let (a, b) = (first_string(notes, 0), first_string(notes, 1));
-        self.write_result(Record {
-            kind: 47,
-            a,
-            b,
-            c,
-            ..record
-        })?;
+        self.write_result(Record { kind: 47, a, b, c, ..record })?;
         Ok(())
     }
 }

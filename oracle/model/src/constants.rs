@@ -21,25 +21,16 @@ struct Constants {
 
 impl Constants {
     fn of(book: &Book) -> Constants {
-        let declared: Vec<(u32, Record)> = book
-            .declared(24..=24)
-            .map(|(record, declaration)| (declaration.number, record))
-            .collect();
+        let declared: Vec<(u32, Record)> =
+            book.declared(24..=24).map(|(record, declaration)| (declaration.number, record)).collect();
         // "declared" means anywhere in the book (a decision).
-        let index: BTreeMap<u16, usize> = declared
-            .iter()
-            .enumerate()
-            .map(|(i, (_, record))| (record.a, i))
-            .collect();
+        let index: BTreeMap<u16, usize> = declared.iter().enumerate().map(|(i, (_, record))| (record.a, i)).collect();
         let named = declared
             .iter()
             .map(|(_, record)| {
                 let mut names = Vec::new();
                 referenced(book, record.c, &mut names);
-                names
-                    .iter()
-                    .filter_map(|name| index.get(name).copied())
-                    .collect()
+                names.iter().filter_map(|name| index.get(name).copied()).collect()
             })
             .collect();
         Constants { declared, named }
@@ -146,12 +137,7 @@ impl Lowering<'_> {
     /// Reading: the papers give no order between the type's records and message 5. The type goes
     /// first: so its diagnostics stand before message 5, and a type too deep is 9 even where there
     /// is no room for message 5. Between message 5 and the 41 nothing shows: each is 10 at the 24.
-    fn lower_constant(
-        &mut self,
-        number: u32,
-        record: Record,
-        value: Option<i64>,
-    ) -> Result<(), Refusal> {
+    fn lower_constant(&mut self, number: u32, record: Record, value: Option<i64>) -> Result<(), Refusal> {
         self.at = number;
         let b = self.resolve_type(record.b)?;
         if value.is_none() {
@@ -160,15 +146,7 @@ impl Lowering<'_> {
         // "41 reached constant (sub 1 stored, a, b type, v value or 0)".
         let sub = if value.is_some() { 1 } else { 0 };
         let v = value.unwrap_or(0) as u64;
-        self.write_result(Record {
-            kind: 41,
-            sub,
-            a: record.a,
-            b,
-            c: 0,
-            v,
-            span: record.span,
-        })?;
+        self.write_result(Record { kind: 41, sub, a: record.a, b, c: 0, v, span: record.span })?;
         Ok(())
     }
 
@@ -176,14 +154,6 @@ impl Lowering<'_> {
     /// `ConstRefNotFound`. Reading: the name is the constant's own, as K2 names no other.
     fn message_5(&mut self, record: Record) -> Result<(), Refusal> {
         let span = self.book.record(u32::from(record.c)).span;
-        self.write_diagnostic(Record {
-            kind: 50,
-            sub: 5,
-            a: record.a,
-            b: 0,
-            c: 0,
-            v: 2,
-            span,
-        })
+        self.write_diagnostic(Record { kind: 50, sub: 5, a: record.a, b: 0, c: 0, v: 2, span })
     }
 }

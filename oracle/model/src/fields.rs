@@ -107,29 +107,18 @@ pub struct Shape {
 impl Shape {
     /// Every field inside its values.
     pub fn holds(&self, record: &Record) -> bool {
-        self.a.holds(record.a)
-            && self.b.holds(record.b)
-            && self.c.holds(record.c)
-            && self.v.holds(record.v)
+        self.a.holds(record.a) && self.b.holds(record.b) && self.c.holds(record.c) && self.v.holds(record.v)
     }
 
     /// The children a record names, with the group each has to be of.
     pub fn children(&self, record: &Record) -> impl Iterator<Item = (u16, Group)> {
-        [
-            self.a.child(record.a),
-            self.b.child(record.b),
-            self.c.child(record.c),
-        ]
-        .into_iter()
-        .flatten()
+        [self.a.child(record.a), self.b.child(record.b), self.c.child(record.c)].into_iter().flatten()
     }
 }
 
 /// The children of a record; none for a kind or sub that is not listed.
 pub fn children(record: &Record) -> impl Iterator<Item = (u16, Group)> + '_ {
-    shape(record.kind, record.sub)
-        .into_iter()
-        .flat_map(|shape| shape.children(record))
+    shape(record.kind, record.sub).into_iter().flat_map(|shape| shape.children(record))
 }
 
 /// The fields of a kind and sub, where the kind is known and the sub inside its values. A sub

@@ -22,15 +22,8 @@ use lowering::Lowering;
 /// What a lowering answers: the three counts, or the number and the place of the first cause met.
 #[derive(Clone, Copy, Debug, PartialEq, Eq)]
 pub enum Reply {
-    Accepted {
-        results: u32,
-        diagnostics: u32,
-        constants: u32,
-    },
-    Refused {
-        number: u8,
-        place: u32,
-    },
+    Accepted { results: u32, diagnostics: u32, constants: u32 },
+    Refused { number: u8, place: u32 },
 }
 
 /// What the lowering did that the slices do not show; all empty or zero where the book is refused by 1 to 8.
@@ -39,14 +32,18 @@ pub enum Reply {
 /// part that stopped and of later parts are 0, and the two lists hold what was met until then.
 #[derive(Clone, Debug, Default, PartialEq, Eq)]
 pub struct Trace {
-    /// How many type numbers are given after each part: declarations 20-22, generic aliases, plain aliases, constants, bodies.
+    /// How many type numbers are given after each part: declarations 20-22, generic aliases, plain aliases, constants,
+    /// bodies.
     pub numbers: [u32; 5],
     /// Results and diagnostics written after each of those parts (index 0 and 1 are 0).
     pub results: [u32; 5],
     pub diagnostics: [u32; 5],
-    /// While constants' types are resolved: (record number of the 24, name) for each bare name (kind 4) that came as far as the step "known number" or "fresh stub" and had no number when the part of the constants began.
+    /// While constants' types are resolved: (record number of the 24, name) for each bare name (kind 4) that came as
+    /// far as the step "known number" or "fresh stub" and had no number when the part of the constants began.
     pub bare: Vec<(u32, u16)>,
-    /// While constants' types are resolved: (record number of the 24, name) for each name asked for as the namespace of a qualified name (when the pair was not known) or as the head of a generic, that had no number when the part of the constants began.
+    /// While constants' types are resolved: (record number of the 24, name) for each name asked for as the namespace of
+    /// a qualified name (when the pair was not known) or as the head of a generic, that had no number when the part of
+    /// the constants began.
     pub asked: Vec<(u32, u16)>,
 }
 
@@ -59,10 +56,7 @@ struct Refusal {
 
 impl From<Refusal> for Reply {
     fn from(refusal: Refusal) -> Reply {
-        Reply::Refused {
-            number: refusal.number,
-            place: refusal.place,
-        }
+        Reply::Refused { number: refusal.number, place: refusal.place }
     }
 }
 

@@ -40,14 +40,8 @@ impl<'a> Lowering<'a> {
         Lowering {
             book,
             names: Names::default(),
-            results: List {
-                records: Vec::new(),
-                limit: result_limit,
-            },
-            diagnostics: List {
-                records: Vec::new(),
-                limit: diagnostic_limit,
-            },
+            results: List { records: Vec::new(), limit: result_limit },
+            diagnostics: List { records: Vec::new(), limit: diagnostic_limit },
             at: 0,
             constants_began: None,
             trace: Trace::default(),
@@ -109,15 +103,7 @@ impl<'a> Lowering<'a> {
         self.at = alias.number;
         let first = self.results.records.len() as u16;
         let root = self.resolve_type(record.b)?;
-        self.write_result(Record {
-            kind: 40,
-            sub: 0,
-            a: record.a,
-            b: root,
-            c: 0,
-            v: 0,
-            span: record.span,
-        })?;
+        self.write_result(Record { kind: 40, sub: 0, a: record.a, b: root, c: 0, v: 0, span: record.span })?;
         self.names.add_plain_alias(record.a, first, root);
         Ok(())
     }
@@ -129,18 +115,12 @@ impl<'a> Lowering<'a> {
 
     /// Writes a diagnostic.
     pub fn write_diagnostic(&mut self, record: Record) -> Result<(), Refusal> {
-        self.diagnostics
-            .push(record)
-            .map(|_| ())
-            .ok_or(self.refused(10))
+        self.diagnostics.push(record).map(|_| ()).ok_or(self.refused(10))
     }
 
     /// Cause 9 or 10, at the "declaration or item being lowered".
     pub fn refused(&self, number: u8) -> Refusal {
-        Refusal {
-            number,
-            place: self.at,
-        }
+        Refusal { number, place: self.at }
     }
 
     pub fn results(&self) -> &[Record] {

@@ -27,11 +27,7 @@ pub struct Item {
 impl Book {
     pub fn new(records: Vec<Record>, wildcards: bool) -> Book {
         let declarations = outline(&records);
-        Book {
-            records,
-            wildcards,
-            declarations,
-        }
+        Book { records, wildcards, declarations }
     }
 
     /// A record of the book; reading made sure that every child number has one.
@@ -40,10 +36,7 @@ impl Book {
     }
 
     /// The declarations of some kinds, in book order, each with its record.
-    pub fn declared(
-        &self,
-        kinds: std::ops::RangeInclusive<u8>,
-    ) -> impl Iterator<Item = (Record, &Declaration)> {
+    pub fn declared(&self, kinds: std::ops::RangeInclusive<u8>) -> impl Iterator<Item = (Record, &Declaration)> {
         self.declarations
             .iter()
             .map(|declaration| (self.record(declaration.number), declaration))
@@ -54,10 +47,7 @@ impl Book {
 impl Declaration {
     /// The name of its first type parameter (30); an alias that has one is generic, another plain.
     pub fn first_parameter(&self) -> Option<u16> {
-        self.notes
-            .iter()
-            .find(|note| note.kind == 30)
-            .map(|note| note.a)
+        self.notes.iter().find(|note| note.kind == 30).map(|note| note.a)
     }
 }
 
@@ -67,15 +57,8 @@ fn outline(records: &[Record]) -> Vec<Declaration> {
     let mut declarations: Vec<Declaration> = Vec::new();
     for (number, record) in (0u32..).zip(records) {
         match (record.kind, declarations.last_mut()) {
-            (20..=25, _) => declarations.push(Declaration {
-                number,
-                notes: Vec::new(),
-                items: Vec::new(),
-            }),
-            (31..=33, Some(declaration)) => declaration.items.push(Item {
-                number,
-                notes: Vec::new(),
-            }),
+            (20..=25, _) => declarations.push(Declaration { number, notes: Vec::new(), items: Vec::new() }),
+            (31..=33, Some(declaration)) => declaration.items.push(Item { number, notes: Vec::new() }),
             (30 | 34..=36, Some(declaration)) => match declaration.items.last_mut() {
                 Some(item) => item.notes.push(*record),
                 None => declaration.notes.push(*record),

@@ -23,17 +23,11 @@ const DEEPEST_TREE: u8 = 64;
 pub fn read(bytes: &[u8]) -> Result<Book, Refusal> {
     // "length 0, above 32,768 or no multiple of 512".
     if bytes.is_empty() || bytes.len() > MOST_BLOCKS * BLOCK || !bytes.len().is_multiple_of(BLOCK) {
-        return Err(Refusal {
-            number: 1,
-            place: 0,
-        });
+        return Err(Refusal { number: 1, place: 0 });
     }
     let last = bytes.len() / BLOCK - 1;
     for (number, block) in bytes.chunks_exact(BLOCK).enumerate() {
-        let refused = |cause| Refusal {
-            number: cause,
-            place: number as u32,
-        };
+        let refused = |cause| Refusal { number: cause, place: number as u32 };
         if !check_holds(block) {
             return Err(refused(2));
         }
@@ -86,10 +80,7 @@ fn read_records(bytes: &[u8]) -> Vec<Record> {
 fn check_records(records: &[Record]) -> Result<(), Refusal> {
     let mut state = State::default();
     for (number, record) in records.iter().enumerate() {
-        state.check(record).map_err(|cause| Refusal {
-            number: cause,
-            place: number as u32,
-        })?;
+        state.check(record).map_err(|cause| Refusal { number: cause, place: number as u32 })?;
     }
     Ok(())
 }
@@ -115,9 +106,7 @@ struct Earlier {
 impl State {
     /// "4 to 8 within each": the first cause that the record falls under.
     fn check(&mut self, record: &Record) -> Result<(), u8> {
-        let shape = fields::shape(record.kind, record.sub)
-            .filter(|shape| shape.holds(record))
-            .ok_or(4)?;
+        let shape = fields::shape(record.kind, record.sub).filter(|shape| shape.holds(record)).ok_or(4)?;
         self.take_children(&shape, record)?;
         if !self.follow.admits(record) {
             return Err(6);
@@ -129,11 +118,7 @@ impl State {
         if depth > DEEPEST_TREE {
             return Err(8);
         }
-        self.earlier.push(Earlier {
-            group: Group::of(record.kind),
-            used: false,
-            depth,
-        });
+        self.earlier.push(Earlier { group: Group::of(record.kind), used: false, depth });
         Ok(())
     }
 
@@ -161,10 +146,7 @@ impl State {
 
     /// "A leaf has depth 1, kinds 20 up add none". Children are at most 64 deep here.
     fn depth(&self, shape: &Shape, record: &Record) -> u8 {
-        let below = shape
-            .children(record)
-            .map(|(child, _)| self.earlier[usize::from(child)].depth)
-            .max();
+        let below = shape.children(record).map(|(child, _)| self.earlier[usize::from(child)].depth).max();
         let own = if record.kind < 20 { 1 } else { 0 };
         below.unwrap_or(0) + own
     }

@@ -35,10 +35,7 @@ impl Record {
             b: two(4),
             c: two(6),
             v: eight(8),
-            span: Span {
-                offset: four(16),
-                length: four(20),
-            },
+            span: Span { offset: four(16), length: four(20) },
         }
     }
 
@@ -57,9 +54,6 @@ impl Record {
 
     /// The same record without its span: "the rest have 0".
     pub fn without_span(self) -> Record {
-        Record {
-            span: Span::default(),
-            ..self
-        }
+        Record { span: Span::default(), ..self }
     }
 }

@@ -100,13 +100,7 @@ impl Lowering<'_> {
     ///
     /// Reading: spans are handed on as they were taken. Where the whole target is a use, or is the
     /// parameter, it has the span of the outer use, and hands that one on to what replaces it.
-    fn resolve(
-        &mut self,
-        number: u16,
-        span: Span,
-        depth: u32,
-        inside: Option<Substitution>,
-    ) -> Result<u16, Refusal> {
+    fn resolve(&mut self, number: u16, span: Span, depth: u32, inside: Option<Substitution>) -> Result<u16, Refusal> {
         if depth > DEEPEST {
             return Err(self.refused(9));
         }
@@ -115,28 +109,19 @@ impl Lowering<'_> {
             4 => match inside {
                 // The parameter goes before every other step (a decision). "[...] an argument as a whole
                 // [takes the span] of the parameter it replaces". The argument is not in the target.
-                Some(of) if of.parameter == record.a => {
-                    self.resolve(of.argument, span, depth + 1, None)
-                }
+                Some(of) if of.parameter == record.a => self.resolve(of.argument, span, depth + 1, None),
                 _ => self.resolve_named(record.a, span),
             },
             5 => self.resolve_qualified(record.a, record.b, span),
             6 => self.resolve_generic(record.a, record.b, span, depth, inside.is_some()),
             7 => {
                 let a = self.resolve_part(record.a, depth, inside)?;
-                self.write_result(Record {
-                    a,
-                    ..record.without_span()
-                })
+                self.write_result(Record { a, ..record.without_span() })
             }
             8 => {
                 let a = self.resolve_part(record.a, depth, inside)?;
                 let b = self.resolve_part(record.b, depth, inside)?;
-                self.write_result(Record {
-                    a,
-                    b,
-                    ..record.without_span()
-                })
+                self.write_result(Record { a, b, ..record.without_span() })
             }
             // 1, 2, 3 and 9 are carried through.
             _ => self.write_result(record.without_span()),
@@ -144,12 +129,7 @@ impl Lowering<'_> {
     }
 
     /// A child: "parts inside either keep their own" span; "a step to a child [...] adds 1".
-    fn resolve_part(
-        &mut self,
-        number: u16,
-        depth: u32,
-        inside: Option<Substitution>,
-    ) -> Result<u16, Refusal> {
+    fn resolve_part(&mut self, number: u16, depth: u32, inside: Option<Substitution>) -> Result<u16, Refusal> {
         self.resolve(number, self.own_span(number), depth + 1, inside)
     }
 
@@ -213,25 +193,13 @@ impl Lowering<'_> {
             return self.poison(3, head, 0, span);
         };
         // "An inner generic passes its argument on unsubstituted. A generic's target takes the span of the use".
-        self.resolve(
-            target,
-            span,
-            depth + 1,
-            Some(Substitution {
-                parameter,
-                argument,
-            }),
-        )
+        self.resolve(target, span, depth + 1, Some(Substitution { parameter, argument }))
     }
 
     /// "Lookup tries the name's own number, then a plain alias to one; poison counts." A stub hides a
     /// later plain alias of its name here (a decision).
     fn lookup(&self, name: u16) -> Option<u32> {
-        self.names
-            .own
-            .get(&name)
-            .copied()
-            .or_else(|| self.plain_alias_number(name))
+        self.names.own.get(&name).copied().or_else(|| self.plain_alias_number(name))
     }
 
     /// The number that a plain alias's result is, where its root is a record 4.
@@ -243,11 +211,7 @@ impl Lowering<'_> {
 
     /// "4 with type number in v"; a is 0 (a decision).
     fn write_number(&mut self, number: u32) -> Result<u16, Refusal> {
-        self.write_result(Record {
-            kind: 4,
-            v: u64::from(number),
-            ..Record::default()
-        })
+        self.write_result(Record { kind: 4, v: u64::from(number), ..Record::default() })
     }
 
     /// A message at once (a decision), then poison in place of the type.
@@ -255,15 +219,7 @@ impl Lowering<'_> {
     fn poison(&mut self, message: u8, a: u16, b: u16, span: Span) -> Result<u16, Refusal> {
         // "v 0 `UnresolvedType`, 1 `AliasTargetNotFound` (message 3)".
         let v = if message == 3 { 1 } else { 0 };
-        self.write_diagnostic(Record {
-            kind: 50,
-            sub: message,
-            a,
-            b,
-            c: 0,
-            v,
-            span,
-        })?;
+        self.write_diagnostic(Record { kind: 50, sub: message, a, b, c: 0, v, span })?;
         self.write_number(POISON)
     }
 

@@ -1,4 +1,5 @@
-//! In the place of the crate `semver`. Versions stand in imports, and a book has none, so nothing here is ever called: a call stops the run.
+//! In the place of the crate `semver`. Versions stand in imports, and a book has none, so nothing here is ever called:
+//! a call stops the run.
 
 pub struct Version;
 

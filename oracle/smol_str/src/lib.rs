@@ -1,5 +1,5 @@
-//! A name as text, in the place of the crate `smol_str`: only what the lowering asks of it. Two names are equal, and hash alike, exactly
-//! if their texts are equal.
+//! A name as text, in the place of the crate `smol_str`: only what the lowering asks of it. Two names are equal, and
+//! hash alike, exactly if their texts are equal.
 
 use std::borrow::Borrow;
 use std::fmt;

@@ -1,4 +1,5 @@
-//! What the unchanged source names and the files at hand do not have. None of it is reached by the harness: a call stops the run.
+//! What the unchanged source names and the files at hand do not have. None of it is reached by the harness: a call
+//! stops the run.
 
 /// Suggestions for the names of imports.
 pub mod errors {

@@ -14,11 +14,7 @@ fn book(rng: &mut Rng, blocks: usize) -> Book {
     let mut book = sized(rng, theme, room);
     let least = (blocks - 1) * PLACES + rng.between(1, PLACES);
     while book.records.len() < least {
-        book.records.push(Record {
-            kind: 1,
-            offset: rng.next() as u32,
-            ..Record::default()
-        });
+        book.records.push(Record { kind: 1, offset: rng.next() as u32, ..Record::default() });
     }
     book
 }
@@ -65,9 +61,7 @@ fn wreck_one(rng: &mut Rng, bytes: &mut [u8], at: usize, broken: usize) {
         return;
     }
     let right = holds(bytes, at);
-    let place = at * BLOCK
-        + 4
-        + RECORD * rng.between(0, usize::from(bytes[at * BLOCK + 2]).clamp(1, PLACES) - 1);
+    let place = at * BLOCK + 4 + RECORD * rng.between(0, usize::from(bytes[at * BLOCK + 2]).clamp(1, PLACES) - 1);
     let mut record = Record::read(&bytes[place..]);
     wreck(rng, &mut record);
     bytes[place..place + RECORD].copy_from_slice(&record.bytes());
@@ -219,11 +213,7 @@ fn rule(rng: &mut Rng, mut bytes: Vec<u8>, block: usize, at: usize, byte: u8) ->
 
 pub fn block_number(rng: &mut Rng) -> Case {
     let (bytes, block) = some(rng);
-    let (at, right) = if rng.chance(2) {
-        (0, block as u8)
-    } else {
-        (1, 0)
-    };
+    let (at, right) = if rng.chance(2) { (0, block as u8) } else { (1, 0) };
     let wrong = match rng.below(3) {
         0 => right.wrapping_sub(1),
         1 => right ^ 1 << rng.below(8),

@@ -16,9 +16,7 @@ fn over(rng: &mut Rng, piece: &mut Piece, top: usize, group: Group) -> usize {
     let sub = rng.below(subs) as u8;
     let number = piece.push(rng, kind, sub);
     let fields = shape(kind, sub).expect("a listed kind").fields;
-    let all: Vec<usize> = (0..3)
-        .filter(|&at| fields[at] == Field::Child(group))
-        .collect();
+    let all: Vec<usize> = (0..3).filter(|&at| fields[at] == Field::Child(group)).collect();
     let at = *rng.pick(&all);
     *field(&mut piece.records[number], at) = top as u16;
     number

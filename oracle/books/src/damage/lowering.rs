@@ -18,14 +18,7 @@ pub enum User {
 /// A newtype.
 fn newtype(m: &mut Maker, child: Id) -> Id {
     let a = m.fresh_name();
-    let id = m.draft.node(
-        Record {
-            kind: 22,
-            a,
-            ..Record::default()
-        },
-        [None, Some(child), None],
-    );
+    let id = m.draft.node(Record { kind: 22, a, ..Record::default() }, [None, Some(child), None]);
     m.draft.open(id);
     id
 }
@@ -33,14 +26,7 @@ fn newtype(m: &mut Maker, child: Id) -> Id {
 /// A plain alias.
 fn alias(m: &mut Maker, child: Id) -> Id {
     let a = m.fresh_name();
-    let id = m.draft.node(
-        Record {
-            kind: 23,
-            a,
-            ..Record::default()
-        },
-        [None, Some(child), None],
-    );
+    let id = m.draft.node(Record { kind: 23, a, ..Record::default() }, [None, Some(child), None]);
     m.draft.open(id);
     id
 }
@@ -50,14 +36,7 @@ fn constant(m: &mut Maker, child: Id) -> Id {
     let a = m.fresh_name();
     let v = m.rng.below(100);
     let value = m.leaf(10, 0, 0, 0, v);
-    let id = m.draft.node(
-        Record {
-            kind: 24,
-            a,
-            ..Record::default()
-        },
-        [None, Some(child), Some(value)],
-    );
+    let id = m.draft.node(Record { kind: 24, a, ..Record::default() }, [None, Some(child), Some(value)]);
     m.draft.open(id);
     id
 }
@@ -72,13 +51,7 @@ fn body(m: &mut Maker, kind: u8) -> Id {
 
 /// A field without constraint.
 fn field(m: &mut Maker, child: Id) -> Id {
-    let record = Record {
-        kind: 31,
-        a: m.rng.below(4_096) as u16,
-        c: NONE,
-        v: 3,
-        ..Record::default()
-    };
+    let record = Record { kind: 31, a: m.rng.below(4_096) as u16, c: NONE, v: 3, ..Record::default() };
     let id = m.draft.node(record, [None, Some(child), None]);
     m.draft.item(id);
     id
@@ -87,16 +60,7 @@ fn field(m: &mut Maker, child: Id) -> Id {
 /// A tombstone.
 fn tombstone(m: &mut Maker, sub: u8, child: Option<Id>) -> Id {
     let c = if child.is_some() { 0 } else { NONE };
-    let id = m.draft.node(
-        Record {
-            kind: 32,
-            sub,
-            c,
-            v: 4,
-            ..Record::default()
-        },
-        [None, None, child],
-    );
+    let id = m.draft.node(Record { kind: 32, sub, c, v: 4, ..Record::default() }, [None, None, child]);
     m.draft.item(id);
     id
 }
@@ -137,19 +101,14 @@ fn used(m: &mut Maker, user: User, child: Id) -> (Id, usize) {
 
 /// The bytes of a draft, and the number of that record.
 fn finished(m: &mut Maker, wildcards: bool, id: Id) -> (Vec<u8>, u32) {
-    let placing = *m
-        .rng
-        .pick(&[Placing::Close, Placing::Front, Placing::Spread(2)]);
+    let placing = *m.rng.pick(&[Placing::Close, Placing::Front, Placing::Spread(2)]);
     let (records, numbers) = m.draft.finish(m.rng, placing, Spans::Distinct);
     (Book { wildcards, records }.bytes(), u32::from(numbers[id]))
 }
 
 /// Lent lengths of the limits or above.
 fn ample(rng: &mut Rng) -> (usize, usize) {
-    (
-        FULL.0 + *rng.pick(&[0, 0, 1, 48]),
-        FULL.1 + *rng.pick(&[0, 0, 24, 48]),
-    )
+    (FULL.0 + *rng.pick(&[0, 0, 1, 48]), FULL.1 + *rng.pick(&[0, 0, 24, 48]))
 }
 
 /// Resolving that takes exactly 65 steps, alone in a slice that is just long enough, or among newtypes. Later in the
@@ -173,16 +132,8 @@ pub fn steps(rng: &mut Rng, user: User) -> Case {
         m.rng.shuffle(&mut m.draft.groups);
     }
     let (bytes, place) = finished(&mut m, wildcards, id);
-    let lengths = if alone {
-        (before * RECORD + rng.between(0, 23), rng.between(0, 30))
-    } else {
-        ample(rng)
-    };
-    Case {
-        bytes,
-        lengths: Some(lengths),
-        expected: Some((9, place)),
-    }
+    let lengths = if alone { (before * RECORD + rng.between(0, 23), rng.between(0, 30)) } else { ample(rng) };
+    Case { bytes, lengths: Some(lengths), expected: Some((9, place)) }
 }
 
 /// Two children, one too deep and one plain, and no room for the plain one: the left one decides.
@@ -190,38 +141,16 @@ fn too_deep_beside(rng: &mut Rng, deep_first: bool) -> Case {
     let mut m = Maker::blank(rng);
     let unknown = m.rng.chance(2);
     let deep = m.stepped(64);
-    let plain = if unknown {
-        m.named(3_010)
-    } else {
-        m.primitive()
-    };
-    let child = if deep_first {
-        m.two_children(deep, plain)
-    } else {
-        m.two_children(plain, deep)
-    };
-    let user = *m.rng.pick(&[
-        User::Alias,
-        User::Constant,
-        User::Newtype,
-        User::Field,
-        User::Tombstone,
-    ]);
+    let plain = if unknown { m.named(3_010) } else { m.primitive() };
+    let child = if deep_first { m.two_children(deep, plain) } else { m.two_children(plain, deep) };
+    let user = *m.rng.pick(&[User::Alias, User::Constant, User::Newtype, User::Field, User::Tombstone]);
     let (id, before) = used(&mut m, user, child);
     let (bytes, place) = finished(&mut m, false, id);
     let ample = ample(rng);
     // An unknown name says so before its record is written.
-    let lengths = if unknown && rng.chance(2) {
-        (ample.0, 0)
-    } else {
-        (before * RECORD, ample.1)
-    };
+    let lengths = if unknown && rng.chance(2) { (ample.0, 0) } else { (before * RECORD, ample.1) };
     let cause = if deep_first { 9 } else { 10 };
-    Case {
-        bytes,
-        lengths: Some(lengths),
-        expected: Some((cause, place)),
-    }
+    Case { bytes, lengths: Some(lengths), expected: Some((cause, place)) }
 }
 
 pub fn deep_before_full(rng: &mut Rng) -> Case {
@@ -239,11 +168,7 @@ pub fn ring(rng: &mut Rng) -> Case {
     let length = m.rng.between(1, 5);
     let names: Vec<u16> = (0..length).map(|_| m.fresh_name()).collect();
     for at in 0..length {
-        let argument = if m.rng.chance(2) {
-            m.named(3_000)
-        } else {
-            m.primitive()
-        };
+        let argument = if m.rng.chance(2) { m.named(3_000) } else { m.primitive() };
         let mut target = m.generic(names[(at + 1) % length], argument);
         if m.rng.chance(2) {
             target = m.one_child(target);
@@ -254,26 +179,12 @@ pub fn ring(rng: &mut Rng) -> Case {
     }
     let argument = m.primitive();
     let child = m.generic(names[0], argument);
-    let user = *m.rng.pick(&[
-        User::Alias,
-        User::Constant,
-        User::Newtype,
-        User::Field,
-        User::Tombstone,
-    ]);
+    let user = *m.rng.pick(&[User::Alias, User::Constant, User::Newtype, User::Field, User::Tombstone]);
     let (id, before) = used(&mut m, user, child);
     m.rng.shuffle(&mut m.draft.groups);
     let (bytes, place) = finished(&mut m, wildcards, id);
-    let lengths = if rng.chance(3) {
-        (before * RECORD + rng.between(0, 23), 0)
-    } else {
-        ample(rng)
-    };
-    Case {
-        bytes,
-        lengths: Some(lengths),
-        expected: Some((9, place)),
-    }
+    let lengths = if rng.chance(3) { (before * RECORD + rng.between(0, 23), 0) } else { ample(rng) };
+    Case { bytes, lengths: Some(lengths), expected: Some((9, place)) }
 }
 
 /// What lowering writes, in its order: counts of results with the record lowered.
@@ -306,11 +217,7 @@ fn results(mut m: Maker, events: Events) -> Case {
     let room = short(m.rng, &events).min(2_047);
     let (bytes, place) = finished(&mut m, false, overflows(&events, room));
     let lengths = (room * RECORD + m.rng.between(0, 23), ample(m.rng).1);
-    Case {
-        bytes,
-        lengths: Some(lengths),
-        expected: Some((10, place)),
-    }
+    Case { bytes, lengths: Some(lengths), expected: Some((10, place)) }
 }
 
 pub fn newtypes(rng: &mut Rng) -> Case {
@@ -388,11 +295,7 @@ pub fn copies(rng: &mut Rng) -> Case {
     let name = *m.plan.pool.last().expect("the alias has a name");
     let mut events = vec![(size + 1, id)];
     let full = m.rng.chance(2);
-    let count = if full {
-        2_048 / (size + 1) + m.rng.between(0, 3)
-    } else {
-        m.rng.between(1, 10)
-    };
+    let count = if full { 2_048 / (size + 1) + m.rng.between(0, 3) } else { m.rng.between(1, 10) };
     for _ in 0..count {
         let child = m.named(name);
         events.push((size + 1, newtype(&mut m, child)));
@@ -402,11 +305,7 @@ pub fn copies(rng: &mut Rng) -> Case {
         return results(m, events);
     }
     let (bytes, place) = finished(&mut m, false, overflows(&events, 2_048));
-    Case {
-        bytes,
-        lengths: Some(ample(m.rng)),
-        expected: Some((10, place)),
-    }
+    Case { bytes, lengths: Some(ample(m.rng)), expected: Some((10, place)) }
 }
 
 /// Newtypes over unknown names: a diagnostic each, and two results.
@@ -424,18 +323,10 @@ pub fn diagnostics(rng: &mut Rng) -> Case {
     let mut m = Maker::blank(rng);
     let count = m.rng.between(1, 30);
     let all = unknown_newtypes(&mut m, count);
-    let room = if m.rng.chance(2) {
-        count - 1
-    } else {
-        m.rng.between(0, count - 1)
-    };
+    let room = if m.rng.chance(2) { count - 1 } else { m.rng.between(0, count - 1) };
     let (bytes, place) = finished(&mut m, false, all[room]);
     let lengths = (ample(m.rng).0, room * RECORD + m.rng.between(0, 23));
-    Case {
-        bytes,
-        lengths: Some(lengths),
-        expected: Some((10, place)),
-    }
+    Case { bytes, lengths: Some(lengths), expected: Some((10, place)) }
 }
 
 pub fn diagnostics_full(rng: &mut Rng) -> Case {
@@ -443,11 +334,7 @@ pub fn diagnostics_full(rng: &mut Rng) -> Case {
     let count = m.rng.between(257, 280);
     let all = unknown_newtypes(&mut m, count);
     let (bytes, place) = finished(&mut m, false, all[256]);
-    Case {
-        bytes,
-        lengths: Some(ample(m.rng)),
-        expected: Some((10, place)),
-    }
+    Case { bytes, lengths: Some(ample(m.rng)), expected: Some((10, place)) }
 }
 
 /// Both slices too short: whichever is met first.
@@ -458,13 +345,6 @@ pub fn both(rng: &mut Rng) -> Case {
     let said = m.rng.between(0, count - 1);
     let written = m.rng.between(0, 2 * count - 1);
     let (bytes, place) = finished(&mut m, false, all[said.min(written / 2)]);
-    let lengths = (
-        written * RECORD + m.rng.between(0, 23),
-        said * RECORD + m.rng.between(0, 23),
-    );
-    Case {
-        bytes,
-        lengths: Some(lengths),
-        expected: Some((10, place)),
-    }
+    let lengths = (written * RECORD + m.rng.between(0, 23), said * RECORD + m.rng.between(0, 23));
+    Case { bytes, lengths: Some(lengths), expected: Some((10, place)) }
 }

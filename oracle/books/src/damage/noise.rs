@@ -28,23 +28,12 @@ pub fn record_flipped(rng: &mut Rng) -> Case {
 pub fn random_records(rng: &mut Rng) -> Case {
     let count = rng.between(1, 40);
     let records = (0..count).map(|at| random_record(rng, at)).collect();
-    Case::new(
-        Book {
-            wildcards: rng.chance(2),
-            records,
-        }
-        .bytes(),
-        None,
-    )
+    Case::new(Book { wildcards: rng.chance(2), records }.bytes(), None)
 }
 
 /// A record that may well be sound: its children are mostly earlier.
 fn random_record(rng: &mut Rng, at: usize) -> Record {
-    let &(kind, subs) = if rng.chance(2) {
-        rng.pick(&KINDS[..4])
-    } else {
-        rng.pick(&KINDS)
-    };
+    let &(kind, subs) = if rng.chance(2) { rng.pick(&KINDS[..4]) } else { rng.pick(&KINDS) };
     let small = |rng: &mut Rng| {
         if rng.chance(2) {
             0

@@ -45,16 +45,7 @@ const CONTEXTS: [&[(u8, u8)]; 34] = [
 ];
 
 /// What may break a rule.
-const ITEMS: [(u8, u8); 8] = [
-    (30, 0),
-    (31, 0),
-    (32, 0),
-    (32, 1),
-    (33, 0),
-    (34, 0),
-    (35, 0),
-    (36, 0),
-];
+const ITEMS: [(u8, u8); 8] = [(30, 0), (31, 0), (32, 0), (32, 1), (33, 0), (34, 0), (35, 0), (36, 0)];
 
 /// Why an item may not stand behind a context.
 #[derive(Clone, Copy, PartialEq, Eq)]
@@ -75,10 +66,7 @@ fn against(context: &[(u8, u8)], item: (u8, u8)) -> Option<Why> {
     let start = context.iter().rposition(|&(kind, _)| set(kind).is_some());
     let body = start.map_or(0, |at| context[at].0);
     let inside = start.map_or(&[][..], |at| &context[at + 1..]);
-    let behind_variant = inside
-        .iter()
-        .rposition(|&(kind, _)| kind == 33)
-        .map(|at| &inside[at..]);
+    let behind_variant = inside.iter().rposition(|&(kind, _)| kind == 33).map(|at| &inside[at..]);
     let fits = |kinds: &[u8], why| {
         if kinds.contains(&before) {
             None
@@ -106,12 +94,7 @@ fn against(context: &[(u8, u8)], item: (u8, u8)) -> Option<Why> {
 pub fn misplaced(rng: &mut Rng, why: Why) -> Scene {
     let mut all: Vec<(usize, (u8, u8))> = Vec::new();
     for (at, context) in CONTEXTS.iter().enumerate() {
-        all.extend(
-            ITEMS
-                .iter()
-                .filter(|&&item| against(context, item) == Some(why))
-                .map(|&item| (at, item)),
-        );
+        all.extend(ITEMS.iter().filter(|&&item| against(context, item) == Some(why)).map(|&item| (at, item)));
     }
     let &(context, (kind, sub)) = rng.pick(&all);
     let sub = match kind {
@@ -163,12 +146,7 @@ pub fn field_and_follow(rng: &mut Rng) -> Scene {
 
 /// Cause 5 in a record that breaks the follow rule too.
 pub fn child_and_follow(rng: &mut Rng) -> Scene {
-    let why = *rng.pick(&[
-        Why::NoBody,
-        Why::NoVariant,
-        Why::AfterOwnTombstone,
-        Why::NoUnion,
-    ]);
+    let why = *rng.pick(&[Why::NoBody, Why::NoVariant, Why::AfterOwnTombstone, Why::NoUnion]);
     loop {
         let mut scene = misplaced(rng, why);
         let place = scene.place as u16;
@@ -186,9 +164,7 @@ pub fn child_and_follow(rng: &mut Rng) -> Scene {
 fn again(rng: &mut Rng, kinds: &[u8]) -> Scene {
     let mut scene = Scene::new(rng);
     let records = scene.records();
-    let own: Vec<usize> = (0..records.len())
-        .filter(|&at| kinds.contains(&records[at].kind))
-        .collect();
+    let own: Vec<usize> = (0..records.len()).filter(|&at| kinds.contains(&records[at].kind)).collect();
     let first = if !own.is_empty() && rng.chance(2) {
         *rng.pick(&own)
     } else {

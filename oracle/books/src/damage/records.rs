@@ -13,9 +13,7 @@ fn scene(rng: &mut Rng, wanted: fn(&Shape) -> bool) -> Scene {
 
 /// A kind and sub whose shape is as wanted; all such kinds alike, however many subs they have.
 fn any_pair(rng: &mut Rng, wanted: fn(&Shape) -> bool) -> (u8, u8) {
-    let all: Vec<(u8, u8)> = pairs()
-        .filter(|&(kind, sub)| shape(kind, sub).is_some_and(|s| wanted(&s)))
-        .collect();
+    let all: Vec<(u8, u8)> = pairs().filter(|&(kind, sub)| shape(kind, sub).is_some_and(|s| wanted(&s))).collect();
     let mut kinds: Vec<u8> = all.iter().map(|pair| pair.0).collect();
     kinds.dedup();
     let kind = *rng.pick(&kinds);
@@ -45,10 +43,7 @@ pub fn unknown_kind(rng: &mut Rng) -> Scene {
         _ => *rng.pick(&[0, 17, 18, 19, 26, 27, 28, 29, 37, 255]),
     };
     if rng.chance(2) {
-        *scene.target() = Record {
-            kind,
-            ..Record::default()
-        };
+        *scene.target() = Record { kind, ..Record::default() };
     } else {
         scene.target().kind = kind;
     }
@@ -59,9 +54,7 @@ pub fn unknown_kind(rng: &mut Rng) -> Scene {
 pub fn zero_record(rng: &mut Rng) -> Scene {
     let mut scene = Scene::new(rng);
     let at = scene.records().len();
-    let piece = Piece {
-        records: vec![Record::default()],
-    };
+    let piece = Piece { records: vec![Record::default()] };
     scene.put_at(rng, piece, 0, at);
     scene
 }
@@ -243,9 +236,7 @@ pub fn child_of_a_wrong_group(rng: &mut Rng) -> Scene {
     let fields = shape(kind, sub).expect("a listed kind").fields;
     let children: Vec<usize> = (0..3).filter(|&at| is_child(fields[at])).collect();
     let at = *rng.pick(&children);
-    let (Field::Child(right) | Field::ChildOrNone(right)) = fields[at] else {
-        unreachable!()
-    };
+    let (Field::Child(right) | Field::ChildOrNone(right)) = fields[at] else { unreachable!() };
     let mut scene = Scene::new(rng);
     let mut piece = Piece::default();
     let wrong = wrong_child(rng, &mut piece, right);
@@ -261,12 +252,7 @@ pub fn child_of_a_wrong_group(rng: &mut Rng) -> Scene {
 
 /// Adds a record that is not of that group. Gives its number.
 fn wrong_child(rng: &mut Rng, piece: &mut Piece, right: Group) -> usize {
-    let groups = [
-        Group::Type,
-        Group::Constant,
-        Group::Constraint,
-        Group::Operand,
-    ];
+    let groups = [Group::Type, Group::Constant, Group::Constraint, Group::Operand];
     let others: Vec<Group> = groups.into_iter().filter(|&other| other != right).collect();
     if !rng.chance(3) {
         let &other = rng.pick(&others);
@@ -285,9 +271,7 @@ pub fn child_of_another(rng: &mut Rng) -> Scene {
     let fields = shape(kind, sub).expect("a listed kind").fields;
     let children: Vec<usize> = (0..3).filter(|&at| is_child(fields[at])).collect();
     let at = *rng.pick(&children);
-    let (Field::Child(group) | Field::ChildOrNone(group)) = fields[at] else {
-        unreachable!()
-    };
+    let (Field::Child(group) | Field::ChildOrNone(group)) = fields[at] else { unreachable!() };
     let mut scene = Scene::new(rng);
     let mut piece = Piece::default();
     let child = used_child(rng, &mut piece, group);
@@ -311,17 +295,13 @@ fn used_child(rng: &mut Rng, piece: &mut Piece, group: Group) -> usize {
     let &(kind, sub) = rng.pick(all);
     let parent = piece.push(rng, kind, sub);
     let fields = shape(kind, sub).expect("a listed kind").fields;
-    let at = (0..3)
-        .find(|&at| fields[at] == Field::Child(group))
-        .expect("a child of that group");
+    let at = (0..3).find(|&at| fields[at] == Field::Child(group)).expect("a child of that group");
     usize::from(*field(&mut piece.records[parent], at))
 }
 
 /// The same child twice in one record.
 pub fn child_twice(rng: &mut Rng) -> Scene {
-    let mut scene = scene(rng, |shape| {
-        is_child(shape.fields[0]) && is_child(shape.fields[1])
-    });
+    let mut scene = scene(rng, |shape| is_child(shape.fields[0]) && is_child(shape.fields[1]));
     let target = scene.target();
     if rng.chance(2) {
         target.a = target.b;
@@ -347,9 +327,7 @@ pub fn break_field(rng: &mut Rng, target: &mut Record) {
         return;
     };
     let fields = shape.fields;
-    let free: Vec<usize> = (0..3)
-        .filter(|&at| matches!(fields[at], Field::Unused | Field::Name))
-        .collect();
+    let free: Vec<usize> = (0..3).filter(|&at| matches!(fields[at], Field::Unused | Field::Name)).collect();
     match rng.below(3) {
         0 if !free.is_empty() => *field(target, *rng.pick(&free)) = NONE,
         1 if shape.v == Value::Unused => target.v = 1,

@@ -20,13 +20,8 @@ pub struct Piece {
 impl Piece {
     /// Adds a record with right fields, its children before it. Gives its number.
     pub fn push(&mut self, rng: &mut Rng, kind: u8, sub: u8) -> usize {
-        let mut record = Record {
-            kind,
-            sub,
-            offset: rng.next() as u32,
-            len: rng.below(99) as u32,
-            ..Record::default()
-        };
+        let mut record =
+            Record { kind, sub, offset: rng.next() as u32, len: rng.below(99) as u32, ..Record::default() };
         if let Some(shape) = shape(kind, sub) {
             for (index, &what) in shape.fields.iter().enumerate() {
                 *field(&mut record, index) = self.fitting(rng, what);
@@ -85,11 +80,7 @@ fn fitting_value(rng: &mut Rng, what: Value) -> u64 {
 
 /// What must stand before a record of that kind and sub.
 pub fn stand(rng: &mut Rng, kind: u8, sub: u8) -> Vec<(u8, u8)> {
-    let in_body: &[(u8, u8)] = if rng.chance(2) {
-        &[(20, 0)]
-    } else {
-        &[(21, 0), (33, 0)]
-    };
+    let in_body: &[(u8, u8)] = if rng.chance(2) { &[(20, 0)] } else { &[(21, 0), (33, 0)] };
     match (kind, sub) {
         (30, _) => vec![(23, 0)],
         (31, _) | (32, 0) => in_body.to_vec(),
@@ -141,9 +132,7 @@ impl Scene {
     /// Places from `from` on where a piece with declarations may stand: before declarations and at the end.
     fn slots(&self, from: usize) -> Vec<usize> {
         let records = &self.book.records;
-        let mut all: Vec<usize> = (from..records.len())
-            .filter(|&at| set(records[at].kind).is_some())
-            .collect();
+        let mut all: Vec<usize> = (from..records.len()).filter(|&at| set(records[at].kind).is_some()).collect();
         all.push(records.len());
         all
     }
@@ -152,11 +141,7 @@ impl Scene {
     /// the number `target` of the piece is then the one to be broken.
     pub fn put(&mut self, rng: &mut Rng, piece: Piece, target: usize, from: usize) {
         let trees = piece.records.iter().all(|r| group(r.kind).is_some());
-        let at = if trees {
-            rng.between(from, self.book.records.len())
-        } else {
-            *rng.pick(&self.slots(from))
-        };
+        let at = if trees { rng.between(from, self.book.records.len()) } else { *rng.pick(&self.slots(from)) };
         self.put_at(rng, piece, target, at);
     }
 
@@ -181,10 +166,7 @@ impl Scene {
                 continue;
             };
             let all = self.book.records.iter().chain(&piece.records[..at]);
-            let taken: Vec<u16> = all
-                .filter(|r| set(r.kind) == Some(of))
-                .map(|r| r.a)
-                .collect();
+            let taken: Vec<u16> = all.filter(|r| set(r.kind) == Some(of)).map(|r| r.a).collect();
             while taken.contains(&piece.records[at].a) {
                 piece.records[at].a = rng.below(4_096) as u16;
             }
@@ -195,9 +177,8 @@ impl Scene {
     pub fn with(rng: &mut Rng, kind: u8, sub: u8) -> Scene {
         let mut scene = Scene::new(rng);
         let records = &scene.book.records;
-        let own: Vec<usize> = (0..records.len())
-            .filter(|&at| (records[at].kind, records[at].sub) == (kind, sub))
-            .collect();
+        let own: Vec<usize> =
+            (0..records.len()).filter(|&at| (records[at].kind, records[at].sub) == (kind, sub)).collect();
         if !own.is_empty() && rng.chance(2) {
             scene.place = *rng.pick(&own);
             return scene;
@@ -244,11 +225,7 @@ pub fn spoil(rng: &mut Rng, records: &mut Vec<Record>, place: usize) {
         if records.len() <= place + 1 {
             return;
         }
-        let at = if rng.chance(2) {
-            place + 1
-        } else {
-            rng.between(place + 1, records.len() - 1)
-        };
+        let at = if rng.chance(2) { place + 1 } else { rng.between(place + 1, records.len() - 1) };
         wreck(rng, &mut records[at]);
     }
 }
@@ -263,12 +240,6 @@ pub fn wreck(rng: &mut Rng, record: &mut Record) {
         4 => record.c = *rng.pick(&[0, 1, 2, NONE]),
         5 => record.v = *rng.pick(&[1, 2, 1 << 32, u64::MAX]),
         6 => record.kind = *rng.pick(&[30, 31, 32, 33, 34, 35, 36]),
-        _ => {
-            *record = Record {
-                kind: rng.below(40) as u8,
-                a: rng.below(20) as u16,
-                ..*record
-            }
-        }
+        _ => *record = Record { kind: rng.below(40) as u8, a: rng.below(20) as u16, ..*record },
     }
 }

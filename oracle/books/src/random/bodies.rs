@@ -82,22 +82,9 @@ impl Maker<'_> {
     fn field(&mut self) {
         let (a, v) = (self.any_name(), self.any_ordinal());
         let kind = self.usual_type();
-        let bound = if self.rng.chance(self.knobs.constrained) {
-            Some(self.usual_constraint())
-        } else {
-            None
-        };
+        let bound = if self.rng.chance(self.knobs.constrained) { Some(self.usual_constraint()) } else { None };
         let c = if bound.is_some() { 0 } else { NONE };
-        let id = self.draft.node(
-            Record {
-                kind: 31,
-                a,
-                c,
-                v,
-                ..Record::default()
-            },
-            [None, Some(kind), bound],
-        );
+        let id = self.draft.node(Record { kind: 31, a, c, v, ..Record::default() }, [None, Some(kind), bound]);
         self.draft.item(id);
         if self.rng.chance(self.knobs.annotated) {
             self.annotations();
@@ -107,33 +94,16 @@ impl Maker<'_> {
     /// Kind 32 with its type and arguments.
     fn tombstone(&mut self, sub: u8) {
         let v = self.any_ordinal();
-        let kind = if self.rng.chance(2) {
-            Some(self.usual_type())
-        } else {
-            None
-        };
+        let kind = if self.rng.chance(2) { Some(self.usual_type()) } else { None };
         let c = if kind.is_some() { 0 } else { NONE };
-        let id = self.draft.node(
-            Record {
-                kind: 32,
-                sub,
-                c,
-                v,
-                ..Record::default()
-            },
-            [None, None, kind],
-        );
+        let id = self.draft.node(Record { kind: 32, sub, c, v, ..Record::default() }, [None, None, kind]);
         self.draft.item(id);
         if self.rng.chance(self.knobs.bare) {
             return;
         }
         for _ in 0..1 + self.rng.below(4) {
             let sub = self.rng.below(3) as u8;
-            let a = if self.rng.chance(3) {
-                NONE
-            } else {
-                self.any_string()
-            };
+            let a = if self.rng.chance(3) { NONE } else { self.any_string() };
             let id = self.leaf(36, sub, a, 0, 0);
             self.draft.item(id);
         }
@@ -164,11 +134,7 @@ impl Maker<'_> {
         let count = self.weighed(&[2, 4, 2, 1]);
         for _ in 0..count {
             let sub = self.rng.below(3) as u8;
-            let a = if self.rng.chance(3) {
-                self.any_name()
-            } else {
-                NONE
-            };
+            let a = if self.rng.chance(3) { self.any_name() } else { NONE };
             let v = if sub == 2 { 0 } else { self.any_bits() };
             let id = self.leaf(35, sub, a, 0, v);
             self.draft.item(id);
@@ -201,27 +167,13 @@ impl Maker<'_> {
 
     /// Kind 13, sub 2.
     fn not(&mut self, a: Id) -> Id {
-        self.draft.node(
-            Record {
-                kind: 13,
-                sub: 2,
-                ..Record::default()
-            },
-            [Some(a), None, None],
-        )
+        self.draft.node(Record { kind: 13, sub: 2, ..Record::default() }, [Some(a), None, None])
     }
 
     /// Kind 13, sub 0 or 1.
     fn both(&mut self, a: Id, b: Id) -> Id {
         let sub = self.rng.below(2) as u8;
-        self.draft.node(
-            Record {
-                kind: 13,
-                sub,
-                ..Record::default()
-            },
-            [Some(a), Some(b), None],
-        )
+        self.draft.node(Record { kind: 13, sub, ..Record::default() }, [Some(a), Some(b), None])
     }
 
     /// Kind 14 or 15.
@@ -231,26 +183,10 @@ impl Maker<'_> {
         if self.rng.chance(3) {
             let b = self.operand();
             let sub = self.rng.below(2) as u8;
-            return self.draft.node(
-                Record {
-                    kind: 15,
-                    sub,
-                    c,
-                    ..Record::default()
-                },
-                [Some(a), Some(b), None],
-            );
+            return self.draft.node(Record { kind: 15, sub, c, ..Record::default() }, [Some(a), Some(b), None]);
         }
         let sub = self.rng.below(6) as u8;
-        self.draft.node(
-            Record {
-                kind: 14,
-                sub,
-                c,
-                ..Record::default()
-            },
-            [Some(a), None, None],
-        )
+        self.draft.node(Record { kind: 14, sub, c, ..Record::default() }, [Some(a), None, None])
     }
 
     /// Kind 16.

@@ -84,11 +84,7 @@ impl Maker<'_> {
 
     /// Kind 24.
     fn declare_constant(&mut self, name: u16, kind: Id, value: Id) {
-        let record = Record {
-            kind: 24,
-            a: name,
-            ..Record::default()
-        };
+        let record = Record { kind: 24, a: name, ..Record::default() };
         let id = self.draft.node(record, [None, Some(kind), Some(value)]);
         self.draft.open(id);
     }
@@ -240,11 +236,7 @@ impl Maker<'_> {
             let v = self.rng.below(3);
             let side = self.leaf(10, 0, 0, 0, v);
             let sub = self.rng.below(2) as u8;
-            top = if self.rng.chance(3) {
-                self.operation(sub, side, top)
-            } else {
-                self.operation(sub, top, side)
-            };
+            top = if self.rng.chance(3) { self.operation(sub, side, top) } else { self.operation(sub, top, side) };
         }
         top
     }
@@ -270,14 +262,7 @@ impl Maker<'_> {
 
     /// Kind 12.
     fn operation(&mut self, sub: u8, a: Id, b: Id) -> Id {
-        self.draft.node(
-            Record {
-                kind: 12,
-                sub,
-                ..Record::default()
-            },
-            [Some(a), Some(b), None],
-        )
+        self.draft.node(Record { kind: 12, sub, ..Record::default() }, [Some(a), Some(b), None])
     }
 
     /// The sub of an operation: a comparison now and then.

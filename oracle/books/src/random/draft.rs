@@ -71,22 +71,12 @@ impl Draft {
 
     /// Records of the tree under and with that one.
     fn weight(&self, id: Id) -> usize {
-        1 + self.nodes[id]
-            .kids
-            .iter()
-            .flatten()
-            .map(|&kid| self.weight(kid))
-            .sum::<usize>()
+        1 + self.nodes[id].kids.iter().flatten().map(|&kid| self.weight(kid)).sum::<usize>()
     }
 
     /// Records of all groups and loose trees.
     pub fn total(&self) -> usize {
-        self.groups
-            .iter()
-            .flatten()
-            .chain(&self.loose)
-            .map(|&id| self.weight(id))
-            .sum()
+        self.groups.iter().flatten().chain(&self.loose).map(|&id| self.weight(id)).sum()
     }
 
     /// Drops loose trees, then items from the end, until no more than `room` records are left.
@@ -164,10 +154,7 @@ impl Draft {
 /// The span of the record with that number.
 fn span(rng: &mut Rng, at: usize, spans: Spans) -> (u32, u32) {
     match spans {
-        Spans::Distinct => (
-            1000 * at as u32 + rng.below(1000) as u32,
-            rng.below(500) as u32,
-        ),
+        Spans::Distinct => (1000 * at as u32 + rng.below(1000) as u32, rng.below(500) as u32),
         Spans::Random => (corner32(rng), corner32(rng)),
         Spans::Zero => (0, 0),
     }
@@ -176,18 +163,7 @@ fn span(rng: &mut Rng, at: usize, spans: Spans) -> (u32, u32) {
 /// Any 32 bits, corners often.
 pub fn corner32(rng: &mut Rng) -> u32 {
     match rng.below(4) {
-        0 => *rng.pick(&[
-            0,
-            1,
-            u32::MAX,
-            u32::MAX - 1,
-            1 << 31,
-            (1 << 31) - 1,
-            255,
-            256,
-            65_535,
-            65_536,
-        ]),
+        0 => *rng.pick(&[0, 1, u32::MAX, u32::MAX - 1, 1 << 31, (1 << 31) - 1, 255, 256, 65_535, 65_536]),
         1 => rng.below(100) as u32,
         _ => rng.next() as u32,
     }

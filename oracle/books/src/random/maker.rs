@@ -137,14 +137,7 @@ impl<'r> Maker<'r> {
     /// A maker without any planned names.
     pub fn blank(rng: &'r mut Rng) -> Maker<'r> {
         let (draft, plan) = (Draft::default(), Plan::default());
-        Maker {
-            rng,
-            draft,
-            knobs: Knobs::mixed(),
-            plan,
-            room: MOST_RECORDS,
-            pairs: Vec::new(),
-        }
+        Maker { rng, draft, knobs: Knobs::mixed(), plan, room: MOST_RECORDS, pairs: Vec::new() }
     }
 }
 
@@ -181,9 +174,7 @@ impl Maker<'_> {
     /// Any string, corners often.
     pub fn any_string(&mut self) -> u16 {
         match self.rng.below(3) {
-            0 => *self
-                .rng
-                .pick(&[0, 1, LAST_STRING, LAST_STRING - 1, 4_095, 4_096]),
+            0 => *self.rng.pick(&[0, 1, LAST_STRING, LAST_STRING - 1, 4_095, 4_096]),
             1 => self.rng.below(20) as u16,
             _ => self.rng.below(u64::from(LAST_STRING) + 1) as u16,
         }
@@ -192,9 +183,7 @@ impl Maker<'_> {
     /// Any ordinal, corners often.
     pub fn any_ordinal(&mut self) -> u64 {
         match self.rng.below(6) {
-            0 => *self
-                .rng
-                .pick(&[0, 1, 0xFFFF_FFFF, 0xFFFF_FFFE, 0x8000_0000, 65_535, 65_536]),
+            0 => *self.rng.pick(&[0, 1, 0xFFFF_FFFF, 0xFFFF_FFFE, 0x8000_0000, 65_535, 65_536]),
             1 => self.rng.next() >> 32,
             _ => self.rng.below(40),
         }
@@ -207,14 +196,7 @@ impl Maker<'_> {
 
     /// A record without children.
     pub fn leaf(&mut self, kind: u8, sub: u8, a: u16, b: u16, v: u64) -> Id {
-        self.draft.leaf(Record {
-            kind,
-            sub,
-            a,
-            b,
-            v,
-            ..Record::default()
-        })
+        self.draft.leaf(Record { kind, sub, a, b, v, ..Record::default() })
     }
 }
 
@@ -251,11 +233,7 @@ pub fn names(rng: &mut Rng, count: usize) -> Vec<u16> {
 fn counts(rng: &mut Rng, knobs: &Knobs, room: usize) -> [usize; 7] {
     let mut counts = [0; 7];
     let most = (room / knobs.per.max(1)).max(1);
-    let total = if rng.chance(3) {
-        rng.between(1, most)
-    } else {
-        most
-    };
+    let total = if rng.chance(3) { rng.between(1, most) } else { most };
     for _ in 0..total {
         counts[weighed(rng, &knobs.roles)] += 1;
     }
@@ -279,13 +257,7 @@ pub fn plan(rng: &mut Rng, knobs: &Knobs, room: usize) -> Plan {
     };
     let heads = take(counts[4]);
     plan.unknown = rest;
-    plan.generics = heads
-        .into_iter()
-        .map(|name| Generic {
-            name,
-            params: params(rng, &pool),
-        })
-        .collect();
+    plan.generics = heads.into_iter().map(|name| Generic { name, params: params(rng, &pool) }).collect();
     plan.constants = names(rng, counts[5]);
     plan.ambiguous = ambiguous(rng, counts[6], &pool);
     plan.declared = [&plan.messages[..], &plan.unions, &plan.newtypes].concat();

@@ -6,10 +6,7 @@ use super::maker::Maker;
 impl Maker<'_> {
     /// A name that the plan does not know and that was not given out before.
     pub fn fresh_name(&mut self) -> u16 {
-        let name = (3_700..4_095)
-            .chain(0..3_000)
-            .find(|name| !self.plan.pool.contains(name))
-            .unwrap_or_default();
+        let name = (3_700..4_095).chain(0..3_000).find(|name| !self.plan.pool.contains(name)).unwrap_or_default();
         self.plan.pool.push(name);
         name
     }
@@ -68,11 +65,7 @@ impl Maker<'_> {
     /// w types, a use, n generics one behind the other, the last with a leaf as target: w + n + 1.
     fn stepped_chain(&mut self, steps: usize) -> Id {
         let most = (steps - 1).min(60);
-        let w = if self.rng.chance(2) {
-            0
-        } else {
-            self.rng.between(0, most)
-        };
+        let w = if self.rng.chance(2) { 0 } else { self.rng.between(0, most) };
         let usage = self.chain(steps - 1 - w, None);
         self.wrapped(usage, w)
     }
@@ -87,11 +80,7 @@ impl Maker<'_> {
         };
         for &name in names.iter().rev() {
             self.declare_generic(name, target, param);
-            let argument = if self.rng.chance(2) {
-                self.named(param)
-            } else {
-                self.plain_leaf()
-            };
+            let argument = if self.rng.chance(2) { self.named(param) } else { self.plain_leaf() };
             target = self.generic(name, argument);
         }
         target
@@ -124,10 +113,7 @@ impl Maker<'_> {
         let (name, param) = (self.fresh_name(), 3_003);
         let target = self.named(param);
         self.declare_generic(name, target, param);
-        let low = (steps - 1)
-            .saturating_sub(56)
-            .div_ceil(2)
-            .max(5.min((steps - 1) / 2));
+        let low = (steps - 1).saturating_sub(56).div_ceil(2).max(5.min((steps - 1) / 2));
         let j = self.rng.between(low, (steps - 1) / 2);
         let mut top = self.plain_leaf();
         for _ in 0..j {

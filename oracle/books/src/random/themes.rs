@@ -19,141 +19,33 @@ pub struct Theme {
 
 /// All themes; the first one mixes all.
 pub const THEMES: [Theme; 27] = [
-    Theme {
-        name: "everything",
-        knobs: |_| {},
-        own: nothing,
-    },
-    Theme {
-        name: "leaves",
-        knobs: leaves,
-        own: nothing,
-    },
-    Theme {
-        name: "nested types",
-        knobs: nested,
-        own: nothing,
-    },
-    Theme {
-        name: "generics",
-        knobs: generics,
-        own: nothing,
-    },
-    Theme {
-        name: "rings of generics",
-        knobs: rings,
-        own: nothing,
-    },
-    Theme {
-        name: "alias chains",
-        knobs: chains,
-        own: nothing,
-    },
-    Theme {
-        name: "ambiguous names",
-        knobs: ambiguous,
-        own: nothing,
-    },
-    Theme {
-        name: "unknown names",
-        knobs: unknown,
-        own: nothing,
-    },
-    Theme {
-        name: "qualified names",
-        knobs: qualified,
-        own: nothing,
-    },
-    Theme {
-        name: "heads",
-        knobs: heads,
-        own: nothing,
-    },
-    Theme {
-        name: "constant chains",
-        knobs: constant_chains,
-        own: nothing,
-    },
-    Theme {
-        name: "constant rings",
-        knobs: constant_rings,
-        own: rings_of_constants,
-    },
-    Theme {
-        name: "constant edges",
-        knobs: constant_edges,
-        own: nothing,
-    },
-    Theme {
-        name: "constant types",
-        knobs: constant_types,
-        own: nothing,
-    },
-    Theme {
-        name: "deep constants",
-        knobs: deep_constants,
-        own: nothing,
-    },
-    Theme {
-        name: "encodings",
-        knobs: encodings,
-        own: nothing,
-    },
-    Theme {
-        name: "unions",
-        knobs: unions,
-        own: nothing,
-    },
-    Theme {
-        name: "constraints",
-        knobs: constraints,
-        own: nothing,
-    },
-    Theme {
-        name: "tombstones",
-        knobs: tombstones,
-        own: nothing,
-    },
-    Theme {
-        name: "limits",
-        knobs: limits,
-        own: nothing,
-    },
-    Theme {
-        name: "empty declarations",
-        knobs: empty,
-        own: nothing,
-    },
-    Theme {
-        name: "loose trees",
-        knobs: loose,
-        own: nothing,
-    },
-    Theme {
-        name: "long lists",
-        knobs: long_lists,
-        own: nothing,
-    },
-    Theme {
-        name: "steps",
-        knobs: few,
-        own: steps,
-    },
-    Theme {
-        name: "copies",
-        knobs: few,
-        own: copies,
-    },
-    Theme {
-        name: "full results",
-        knobs: few,
-        own: full_results,
-    },
-    Theme {
-        name: "many diagnostics",
-        knobs: few,
-        own: many_diagnostics,
-    },
+    Theme { name: "everything", knobs: |_| {}, own: nothing },
+    Theme { name: "leaves", knobs: leaves, own: nothing },
+    Theme { name: "nested types", knobs: nested, own: nothing },
+    Theme { name: "generics", knobs: generics, own: nothing },
+    Theme { name: "rings of generics", knobs: rings, own: nothing },
+    Theme { name: "alias chains", knobs: chains, own: nothing },
+    Theme { name: "ambiguous names", knobs: ambiguous, own: nothing },
+    Theme { name: "unknown names", knobs: unknown, own: nothing },
+    Theme { name: "qualified names", knobs: qualified, own: nothing },
+    Theme { name: "heads", knobs: heads, own: nothing },
+    Theme { name: "constant chains", knobs: constant_chains, own: nothing },
+    Theme { name: "constant rings", knobs: constant_rings, own: rings_of_constants },
+    Theme { name: "constant edges", knobs: constant_edges, own: nothing },
+    Theme { name: "constant types", knobs: constant_types, own: nothing },
+    Theme { name: "deep constants", knobs: deep_constants, own: nothing },
+    Theme { name: "encodings", knobs: encodings, own: nothing },
+    Theme { name: "unions", knobs: unions, own: nothing },
+    Theme { name: "constraints", knobs: constraints, own: nothing },
+    Theme { name: "tombstones", knobs: tombstones, own: nothing },
+    Theme { name: "limits", knobs: limits, own: nothing },
+    Theme { name: "empty declarations", knobs: empty, own: nothing },
+    Theme { name: "loose trees", knobs: loose, own: nothing },
+    Theme { name: "long lists", knobs: long_lists, own: nothing },
+    Theme { name: "steps", knobs: few, own: steps },
+    Theme { name: "copies", knobs: few, own: copies },
+    Theme { name: "full results", knobs: few, own: full_results },
+    Theme { name: "many diagnostics", knobs: few, own: many_diagnostics },
 ];
 
 fn nothing(_: &mut Maker) {}
@@ -228,6 +120,7 @@ fn heads(k: &mut Knobs) {
     k.leaves = [2, 0, 0, 5, 2, 0];
     k.unknown = 5;
     k.per = 5;
+    k.named = [3, 2, 6, 1, 1, 1, 0];
 }
 
 fn constant_chains(k: &mut Knobs) {
@@ -353,50 +246,27 @@ fn user(m: &mut Maker, id: Id) {
     match m.rng.below(5) {
         0 => m.alias(name, id),
         1 => {
-            let top = m.draft.node(
-                Record {
-                    kind: 22,
-                    a: name,
-                    ..Record::default()
-                },
-                [None, Some(id), None],
-            );
+            let top = m.draft.node(Record { kind: 22, a: name, ..Record::default() }, [None, Some(id), None]);
             m.draft.open(top);
         }
         2 => {
             let value = m.leaf(10, 0, 0, 0, 5);
             let name = constant_name(m);
-            let record = Record {
-                kind: 24,
-                a: name,
-                ..Record::default()
-            };
+            let record = Record { kind: 24, a: name, ..Record::default() };
             let top = m.draft.node(record, [None, Some(id), Some(value)]);
             m.draft.open(top);
         }
         3 => {
             let top = m.leaf(20, 0, name, 0, 0);
             m.draft.open(top);
-            let record = Record {
-                kind: 31,
-                a: name,
-                c: 65_535,
-                ..Record::default()
-            };
+            let record = Record { kind: 31, a: name, c: 65_535, ..Record::default() };
             let item = m.draft.node(record, [None, Some(id), None]);
             m.draft.item(item);
         }
         _ => {
             let top = m.leaf(21, 0, name, 0, 0);
             m.draft.open(top);
-            let item = m.draft.node(
-                Record {
-                    kind: 32,
-                    sub: 1,
-                    ..Record::default()
-                },
-                [None, None, Some(id)],
-            );
+            let item = m.draft.node(Record { kind: 32, sub: 1, ..Record::default() }, [None, None, Some(id)]);
             m.draft.item(item);
         }
     }
@@ -425,15 +295,8 @@ fn constant_name(m: &mut Maker) -> u16 {
 fn copies(m: &mut Maker) {
     let length = *m.rng.pick(&[2, 4, 6, 7, 8, 9, 10, 10, 11, 11]);
     let mut before = m.fresh_name();
-    let place = Place {
-        plains: Some(Vec::new()),
-        ..Place::default()
-    };
-    let target = if m.rng.chance(2) {
-        m.primitive()
-    } else {
-        m.type_of(3, &place)
-    };
+    let place = Place { plains: Some(Vec::new()), ..Place::default() };
+    let target = if m.rng.chance(2) { m.primitive() } else { m.type_of(3, &place) };
     m.alias(before, target);
     for _ in 0..length {
         let name = m.fresh_name();
@@ -443,11 +306,7 @@ fn copies(m: &mut Maker) {
                 target = m.one_child(target);
             }
         } else {
-            let b = if m.rng.chance(6) {
-                m.plain_leaf()
-            } else {
-                m.named(before)
-            };
+            let b = if m.rng.chance(6) { m.plain_leaf() } else { m.named(before) };
             target = m.two_children(target, b);
         }
         m.alias(name, target);
@@ -456,14 +315,7 @@ fn copies(m: &mut Maker) {
     for _ in 0..m.rng.below(4) {
         let name = m.fresh_name();
         let child = m.named(before);
-        let top = m.draft.node(
-            Record {
-                kind: 22,
-                a: name,
-                ..Record::default()
-            },
-            [None, Some(child), None],
-        );
+        let top = m.draft.node(Record { kind: 22, a: name, ..Record::default() }, [None, Some(child), None]);
         m.draft.open(top);
     }
 }
@@ -471,9 +323,7 @@ fn copies(m: &mut Maker) {
 /// Results that come near to the limit of 2,048: copies of an alias, and messages for the rest.
 fn full_results(m: &mut Maker) {
     m.knobs.alone = !m.rng.chance(4);
-    let goal = *m.rng.pick(&[
-        1_900, 2_040, 2_046, 2_047, 2_047, 2_048, 2_048, 2_048, 2_048, 2_049,
-    ]);
+    let goal = *m.rng.pick(&[1_900, 2_040, 2_046, 2_047, 2_047, 2_048, 2_048, 2_048, 2_048, 2_049]);
     let size = m.rng.between(20, 64);
     let mut target = m.primitive();
     for _ in 1..size {
@@ -485,14 +335,7 @@ fn full_results(m: &mut Maker) {
     for _ in 0..copies {
         let child = m.named(name);
         let a = m.fresh_name();
-        let top = m.draft.node(
-            Record {
-                kind: 22,
-                a,
-                ..Record::default()
-            },
-            [None, Some(child), None],
-        );
+        let top = m.draft.node(Record { kind: 22, a, ..Record::default() }, [None, Some(child), None]);
         m.draft.open(top);
     }
     for _ in 0..goal - (size + 1) * (copies + 1) {
@@ -508,9 +351,7 @@ fn many_diagnostics(m: &mut Maker) {
     let name = m.fresh_name();
     let top = m.leaf(20, 0, name, 0, 0);
     m.draft.open(top);
-    let count = *m
-        .rng
-        .pick(&[20, 60, 120, 200, 240, 254, 255, 256, 256, 257, 260]);
+    let count = *m.rng.pick(&[20, 60, 120, 200, 240, 254, 255, 256, 256, 257, 260]);
     for _ in 0..count {
         let child = match m.rng.below(3) {
             0 => m.leaf(5, 0, 3_601, 1, 0),
@@ -520,13 +361,7 @@ fn many_diagnostics(m: &mut Maker) {
             }
             _ => m.named(3_603),
         };
-        let record = Record {
-            kind: 31,
-            a: 1,
-            c: 65_535,
-            v: 1,
-            ..Record::default()
-        };
+        let record = Record { kind: 31, a: 1, c: 65_535, v: 1, ..Record::default() };
         let item = m.draft.node(record, [None, Some(child), None]);
         m.draft.item(item);
     }
@@ -562,14 +397,7 @@ pub fn sized(rng: &mut Rng, theme: &Theme, room: usize) -> Book {
     let wildcards = rng.below(4) < knobs.wildcards;
     let plan = plan(rng, &knobs, room);
     let planned = planned(&plan);
-    let mut maker = Maker {
-        rng,
-        draft: Default::default(),
-        knobs,
-        plan,
-        room,
-        pairs: Vec::new(),
-    };
+    let mut maker = Maker { rng, draft: Default::default(), knobs, plan, room, pairs: Vec::new() };
     (theme.own)(&mut maker);
     maker.room = maker.room.max(maker.draft.made() + 10).min(MOST_RECORDS);
     if !maker.knobs.alone {
@@ -591,8 +419,7 @@ fn planned(plan: &Plan) -> Vec<(usize, usize)> {
         plan.ambiguous.len(),
     ];
     let all = counts.iter().enumerate();
-    all.flat_map(|(role, &count)| (0..count).map(move |index| (role, index)))
-        .collect()
+    all.flat_map(|(role, &count)| (0..count).map(move |index| (role, index))).collect()
 }
 
 /// The planned declarations, until the room is used up.
@@ -654,17 +481,9 @@ fn finished(m: &mut Maker) -> Vec<Record> {
     } else {
         total
     };
-    let goal = if m.room >= MOST_RECORDS && m.rng.chance(2) {
-        MOST_RECORDS
-    } else {
-        goal
-    };
+    let goal = if m.room >= MOST_RECORDS && m.rng.chance(2) { MOST_RECORDS } else { goal };
     for _ in total..goal {
-        let id = if m.rng.chance(2) {
-            m.leaf_type(&Place::default())
-        } else {
-            m.operand()
-        };
+        let id = if m.rng.chance(2) { m.leaf_type(&Place::default()) } else { m.operand() };
         m.draft.loose.push(id);
     }
     let placing = match m.rng.below(8) {

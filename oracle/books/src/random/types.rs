@@ -26,11 +26,7 @@ impl Maker<'_> {
             return self.deep_type(&place);
         }
         let most = self.knobs.size;
-        let size = if self.rng.chance(2) {
-            1
-        } else {
-            self.rng.between(1, most)
-        };
+        let size = if self.rng.chance(2) { 1 } else { self.rng.between(1, most) };
         self.type_of(size, &place)
     }
 
@@ -62,42 +58,20 @@ impl Maker<'_> {
 
     /// Kind 6.
     pub fn generic(&mut self, head: u16, child: Id) -> Id {
-        self.draft.node(
-            Record {
-                kind: 6,
-                a: head,
-                ..Record::default()
-            },
-            [None, Some(child), None],
-        )
+        self.draft.node(Record { kind: 6, a: head, ..Record::default() }, [None, Some(child), None])
     }
 
     /// Kind 7 with a random sub.
     pub fn one_child(&mut self, child: Id) -> Id {
         let sub = self.rng.below(10) as u8;
         let v = if sub == 2 { self.any_bits() } else { 0 };
-        self.draft.node(
-            Record {
-                kind: 7,
-                sub,
-                v,
-                ..Record::default()
-            },
-            [Some(child), None, None],
-        )
+        self.draft.node(Record { kind: 7, sub, v, ..Record::default() }, [Some(child), None, None])
     }
 
     /// Kind 8 with a random sub.
     pub fn two_children(&mut self, a: Id, b: Id) -> Id {
         let sub = self.rng.below(2) as u8;
-        self.draft.node(
-            Record {
-                kind: 8,
-                sub,
-                ..Record::default()
-            },
-            [Some(a), Some(b), None],
-        )
+        self.draft.node(Record { kind: 8, sub, ..Record::default() }, [Some(a), Some(b), None])
     }
 
     /// Kind 4.
@@ -170,10 +144,7 @@ impl Maker<'_> {
     fn type_name(&mut self, place: &Place) -> u16 {
         let weights = self.knobs.named;
         let heads = place.heads.clone().unwrap_or_else(|| self.generic_names());
-        let plains = place
-            .plains
-            .clone()
-            .unwrap_or_else(|| self.plan.plains.clone());
+        let plains = place.plains.clone().unwrap_or_else(|| self.plan.plains.clone());
         let list = match self.weighed(&weights) {
             0 => self.plan.declared.clone(),
             1 => plains,
@@ -223,11 +194,7 @@ impl Maker<'_> {
 
     /// The names of all generic aliases.
     pub fn generic_names(&self) -> Vec<u16> {
-        self.plan
-            .generics
-            .iter()
-            .map(|generic| generic.name)
-            .collect()
+        self.plan.generics.iter().map(|generic| generic.name).collect()
     }
 
     /// The head of a generic type.
@@ -257,11 +224,7 @@ impl Maker<'_> {
             1 => self.rng.between(58, DEEPEST),
             _ => self.rng.between(6, 58),
         };
-        let mut top = if self.rng.chance(2) {
-            self.plain_leaf()
-        } else {
-            self.leaf_type(place)
-        };
+        let mut top = if self.rng.chance(2) { self.plain_leaf() } else { self.leaf_type(place) };
         let wide = self.rng.below(3);
         let generic = self.rng.chance(3);
         for _ in 1..deep {
@@ -274,11 +237,7 @@ impl Maker<'_> {
     fn deeper(&mut self, top: Id, wide: u64, generic: bool, place: &Place) -> Id {
         if wide == 2 && self.left() > 140 || wide == 1 && self.rng.chance(8) {
             let side = self.plain_leaf();
-            return if self.rng.chance(2) {
-                self.two_children(side, top)
-            } else {
-                self.two_children(top, side)
-            };
+            return if self.rng.chance(2) { self.two_children(side, top) } else { self.two_children(top, side) };
         }
         if generic && self.rng.chance(30) {
             let head = self.head(place);
@@ -290,27 +249,13 @@ impl Maker<'_> {
     /// A newtype with that name.
     pub fn newtype(&mut self, name: u16) {
         let child = self.usual_type();
-        let id = self.draft.node(
-            Record {
-                kind: 22,
-                a: name,
-                ..Record::default()
-            },
-            [None, Some(child), None],
-        );
+        let id = self.draft.node(Record { kind: 22, a: name, ..Record::default() }, [None, Some(child), None]);
         self.draft.open(id);
     }
 
     /// Kind 23 without parameters.
     pub fn alias(&mut self, name: u16, target: Id) {
-        let id = self.draft.node(
-            Record {
-                kind: 23,
-                a: name,
-                ..Record::default()
-            },
-            [None, Some(target), None],
-        );
+        let id = self.draft.node(Record { kind: 23, a: name, ..Record::default() }, [None, Some(target), None]);
         self.draft.open(id);
     }
 
@@ -322,25 +267,12 @@ impl Maker<'_> {
         let target = if self.rng.chance(self.knobs.chain) {
             self.link(index)
         } else if self.rng.chance(4 * self.knobs.deep) && self.left() > 70 {
-            self.deep_type(&Place {
-                plains: Some(Vec::new()),
-                ..Place::default()
-            })
+            self.deep_type(&Place { plains: Some(Vec::new()), ..Place::default() })
         } else {
-            let plains = if self.rng.chance(3) {
-                later
-            } else {
-                Vec::new()
-            };
+            let plains = if self.rng.chance(3) { later } else { Vec::new() };
             let most = self.knobs.size.min(4);
             let size = self.rng.between(1, most);
-            self.type_of(
-                size,
-                &Place {
-                    plains: Some(plains),
-                    ..Place::default()
-                },
-            )
+            self.type_of(size, &Place { plains: Some(plains), ..Place::default() })
         };
         self.alias(name, target);
     }
@@ -349,9 +281,9 @@ impl Maker<'_> {
     fn link(&mut self, index: usize) -> Id {
         let plains = self.plan.plains.clone();
         let generics = self.generic_names();
-        let list = match self.rng.below(8) {
+        let list = match self.rng.below(10) {
             0 => plains,
-            1 => generics,
+            1 | 8 | 9 => generics,
             2 => self.plan.unknown.clone(),
             3 => self.plan.ambiguous.clone(),
             4 => self.plan.declared.clone(),
@@ -380,16 +312,8 @@ impl Maker<'_> {
     fn target(&mut self, index: usize, params: &[u16]) -> Id {
         let ring = self.rng.chance(self.knobs.ring);
         let names = self.generic_names();
-        let heads = if ring {
-            names
-        } else {
-            names[index + 1..].to_vec()
-        };
-        let place = Place {
-            params: params.to_vec(),
-            heads: Some(heads.clone()),
-            ..Place::default()
-        };
+        let heads = if ring { names } else { names[index + 1..].to_vec() };
+        let place = Place { params: params.to_vec(), heads: Some(heads.clone()), ..Place::default() };
         if ring && self.rng.chance(2) {
             return self.passing_on(&heads, &place);
         }
@@ -421,11 +345,7 @@ impl Maker<'_> {
     /// A generic inside a target, with the parameter in its argument.
     fn passing_on(&mut self, heads: &[u16], place: &Place) -> Id {
         let head = *self.rng.pick(heads);
-        let mut child = if self.rng.chance(3) {
-            self.leaf_type(place)
-        } else {
-            self.named(place.params[0])
-        };
+        let mut child = if self.rng.chance(3) { self.leaf_type(place) } else { self.named(place.params[0]) };
         if self.rng.chance(3) {
             child = self.one_child(child);
         }

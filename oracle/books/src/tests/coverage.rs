@@ -2,7 +2,7 @@
 
 use std::collections::{BTreeMap, BTreeSet, HashMap};
 
-use super::lowering::marked;
+use crate::counting::marked;
 use crate::layout::{Book, Record, NONE};
 use crate::random::{readable, FULL};
 use crate::rng::Rng;
@@ -24,10 +24,7 @@ fn every_kind_and_sub_is_common() {
         }
     }
     for pair in pairs() {
-        assert!(
-            counts.get(&pair).is_some_and(|&count| count >= 60),
-            "{pair:?}"
-        );
+        assert!(counts.get(&pair).is_some_and(|&count| count >= 60), "{pair:?}");
     }
     assert_eq!(counts.len(), pairs().count());
 }
@@ -35,12 +32,7 @@ fn every_kind_and_sub_is_common() {
 #[test]
 fn every_size_of_book_comes() {
     let sizes: Vec<usize> = books(7, 3_000).map(|book| book.records.len()).collect();
-    let share = |low: usize, high: usize| {
-        sizes
-            .iter()
-            .filter(|&&size| (low..=high).contains(&size))
-            .count()
-    };
+    let share = |low: usize, high: usize| sizes.iter().filter(|&&size| (low..=high).contains(&size)).count();
     assert!(share(1, 84) > 1_800);
     assert!(share(85, 420) > 300);
     assert!(share(421, 1_343) > 60);
@@ -98,10 +90,7 @@ fn every_field_comes_to_its_corners() {
             }
         }
         for &corner in value_corners(shape.v) {
-            assert!(
-                values.contains(&(kind, sub, corner)),
-                "kind {kind} sub {sub}: {corner}"
-            );
+            assert!(values.contains(&(kind, sub, corner)), "kind {kind} sub {sub}: {corner}");
         }
     }
     assert!(spans.contains(&0) && spans.contains(&u32::MAX));
@@ -129,26 +118,19 @@ fn trees_of_every_group_come_to_depth_64() {
     let mut counts: BTreeMap<u8, usize> = BTreeMap::new();
     for book in books(9, 3_000) {
         let depths = depths(&book.records);
-        let deep = book
-            .records
-            .iter()
-            .zip(depths)
-            .filter(|&(r, depth)| depth == 64 && group(r.kind).is_some());
+        let deep = book.records.iter().zip(depths).filter(|&(r, depth)| depth == 64 && group(r.kind).is_some());
         let kinds: BTreeSet<u8> = deep.map(|(r, _)| r.kind).collect();
         for kind in kinds {
             *counts.entry(kind).or_default() += 1;
         }
     }
     for kind in [7, 8, 12, 13] {
-        assert!(
-            counts.get(&kind).is_some_and(|&count| count >= 10),
-            "kind {kind}: {counts:?}"
-        );
+        assert!(counts.get(&kind).is_some_and(|&count| count >= 10), "kind {kind}: {counts:?}");
     }
 }
 
 /// What lowering is to meet.
-const MARKS: [&str; 46] = [
+const MARKS: [&str; 47] = [
     "alias not yet there",
     "alias of a leaf",
     "alias of a number",
@@ -162,6 +144,7 @@ const MARKS: [&str; 46] = [
     "depth 64",
     "generic in a target",
     "head alias",
+    "head alias of a generic",
     "head alias without number",
     "head declared or generic",
     "head poison alias",
@@ -206,10 +189,7 @@ fn lowering_meets_everything() {
         }
     }
     for mark in MARKS {
-        assert!(
-            counts.get(mark).is_some_and(|&count| count >= 20),
-            "{mark}: {counts:?}"
-        );
+        assert!(counts.get(mark).is_some_and(|&count| count >= 20), "{mark}: {counts:?}");
     }
     assert_eq!(counts.len(), MARKS.len());
 }
@@ -228,10 +208,7 @@ fn references(records: &[Record], at: u16) -> Vec<u16> {
 fn leads(graph: &HashMap<u16, Vec<u16>>, from: u16, to: u16, steps: usize) -> bool {
     let mut now: BTreeSet<u16> = BTreeSet::from([from]);
     for _ in 0..steps {
-        now = now
-            .iter()
-            .flat_map(|name| graph.get(name).cloned().unwrap_or_default())
-            .collect();
+        now = now.iter().flat_map(|name| graph.get(name).cloned().unwrap_or_default()).collect();
         if now.contains(&to) {
             return true;
         }
@@ -242,23 +219,15 @@ fn leads(graph: &HashMap<u16, Vec<u16>>, from: u16, to: u16, steps: usize) -> bo
 /// What the constants of a book are like.
 fn constant_marks(records: &[Record]) -> BTreeSet<&'static str> {
     let mut out = BTreeSet::new();
-    let graph: HashMap<u16, Vec<u16>> = records
-        .iter()
-        .filter(|r| r.kind == 24)
-        .map(|r| (r.a, references(records, r.c)))
-        .collect();
+    let graph: HashMap<u16, Vec<u16>> =
+        records.iter().filter(|r| r.kind == 24).map(|r| (r.a, references(records, r.c))).collect();
     for (&name, to) in &graph {
         let ring = (1..=6).find(|&steps| leads(&graph, name, name, steps));
         match ring {
             Some(1) => out.insert("ring of 1"),
             Some(2) => out.insert("ring of 2"),
             Some(_) => out.insert("longer ring"),
-            None if to
-                .iter()
-                .any(|&next| next != name && leads(&graph, next, next, 6)) =>
-            {
-                out.insert("into a ring")
-            }
+            None if to.iter().any(|&next| next != name && leads(&graph, next, next, 6)) => out.insert("into a ring"),
             None => false,
         };
         let distinct: BTreeSet<u16> = to.iter().copied().collect();
@@ -304,10 +273,7 @@ fn constants_come_in_every_shape() {
         "diamond",
     ];
     for mark in marks {
-        assert!(
-            counts.get(mark).is_some_and(|&count| count >= 30),
-            "{mark}: {counts:?}"
-        );
+        assert!(counts.get(mark).is_some_and(|&count| count >= 30), "{mark}: {counts:?}");
     }
 }
 
@@ -342,8 +308,6 @@ fn delta_fields(records: &[Record]) -> BTreeSet<(u8, [bool; 3])> {
 
 #[test]
 fn delta_meets_every_primitive_and_encoding() {
-    let met: BTreeSet<_> = books(12, 12_000)
-        .flat_map(|book| delta_fields(&book.records))
-        .collect();
+    let met: BTreeSet<_> = books(12, 12_000).flat_map(|book| delta_fields(&book.records)).collect();
     assert_eq!(met.len(), 14 * 8);
 }

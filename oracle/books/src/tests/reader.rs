@@ -23,8 +23,7 @@ pub fn verdict(bytes: &[u8]) -> Result<(bool, Vec<Record>), (u8, u32)> {
     }
     let mut seen = Seen::default();
     for number in 0..records.len() {
-        seen.look(&records, number)
-            .map_err(|cause| (cause, number as u32))?;
+        seen.look(&records, number).map_err(|cause| (cause, number as u32))?;
     }
     Ok((bytes[3] == 1, records))
 }
@@ -44,11 +43,7 @@ pub fn sum_holds(block: &[u8]) -> bool {
 /// The other rules of a block.
 pub fn block_holds(block: &[u8], number: usize, blocks: usize) -> bool {
     let count = usize::from(block[2]);
-    let right = if number + 1 == blocks {
-        (1..=21).contains(&count)
-    } else {
-        count == 21
-    };
+    let right = if number + 1 == blocks { (1..=21).contains(&count) } else { count == 21 };
     right
         && block[0] == number as u8
         && block[1] == (number >> 8) as u8
@@ -185,11 +180,7 @@ impl Seen {
             self.depth[number] = self.depth[number].max(1 + self.depth[child]);
         }
         if r.kind <= 16 {
-            return if self.depth[number] > 64 {
-                Err(8)
-            } else {
-                Ok(())
-            };
+            return if self.depth[number] > 64 { Err(8) } else { Ok(()) };
         }
         if !self.follows(r) {
             return Err(6);

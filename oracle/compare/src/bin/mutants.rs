@@ -1,5 +1,5 @@
-//! Tries wrong models: for each entry of `mutants.txt` a copy of the workspace gets its edits, is built and run, and something must disagree.
-//! Run in the folder `oracle` by the script `mutants`.
+//! Tries wrong models: for each entry of `mutants.txt` a copy of the workspace gets its edits, is built and run, and
+//! something must disagree. Run in the folder `oracle` by the script `mutants`.
 
 use std::path::{Path, PathBuf};
 use std::process::{Command, Stdio};
@@ -23,27 +23,30 @@ struct Mutant {
 
 /// The entries: paragraphs of a name and edits; a line that starts with `=` says why a mutant is no other model.
 fn mutants(text: &str) -> Vec<Mutant> {
-    let mut all = Vec::new();
-    for paragraph in text.split("\n\n") {
-        let mut lines = paragraph.lines().filter(|l| !l.starts_with('#') && !l.is_empty());
-        let Some(name) = lines.next() else {
-            continue;
-        };
-        let mut m = Mutant { name: name.to_string(), ..Mutant::default() };
-        for line in lines {
-            let joined = |text: &mut String, more: &str| {
-                *text = if text.is_empty() { more.to_string() } else { format!("{text}\n{more}") };
-            };
-            match (line.split_at(line.len().min(2)), m.edits.last_mut()) {
-                (("= ", why), _) => m.same = Some(why.to_string()),
-                (("- ", old), Some(e)) => joined(&mut e.old, old),
-                (("+ ", new), Some(e)) => joined(&mut e.new, new),
-                _ => m.edits.push(Edit { file: line.to_string(), old: String::new(), new: String::new() }),
-            }
+    text.split("\n\n").filter_map(mutant).collect()
+}
+
+/// The entry of a paragraph, if it is more than a remark.
+fn mutant(paragraph: &str) -> Option<Mutant> {
+    let mut lines = paragraph.lines().filter(|l| !l.starts_with('#') && !l.is_empty());
+    let mut m = Mutant { name: lines.next()?.to_string(), ..Mutant::default() };
+    for line in lines {
+        match (line.split_at(line.len().min(2)), m.edits.last_mut()) {
+            (("= ", why), _) => m.same = Some(why.to_string()),
+            (("- ", old), Some(e)) => join(&mut e.old, old),
+            (("+ ", new), Some(e)) => join(&mut e.new, new),
+            _ => m.edits.push(Edit { file: line.to_string(), old: String::new(), new: String::new() }),
         }
-        all.push(m);
     }
-    all
+    Some(m)
+}
+
+/// Adds a line to a text.
+fn join(text: &mut String, line: &str) {
+    if !text.is_empty() {
+        text.push('\n');
+    }
+    text.push_str(line);
 }
 
 /// The text of a file of the model with the edits that it gets, each at the one place where its old text stands.
@@ -91,7 +94,11 @@ fn attempt(m: &Mutant, here: &Path, folder: &Path) -> Result<(bool, bool), Strin
             fs::write(folder.join("model/src").join(&file), edited(&file, &text, m)?).map_err(|e| e.to_string())?;
         }
     }
-    if !ends_well(folder, "cargo", &["build", "--quiet", "--offline", "--release", "--package", "compare", "--bin", "compare"]) {
+    if !ends_well(
+        folder,
+        "cargo",
+        &["build", "--quiet", "--offline", "--release", "--package", "compare", "--bin", "compare"],
+    ) {
         return Err("it does not compile".to_string());
     }
     let list = here.join("../crates/replay");
@@ -107,38 +114,70 @@ fn source(here: &Path) -> PathBuf {
     given.or(places.into_iter().find(|p| p.is_dir())).unwrap_or_default()
 }
 
+/// What there is to say of a mutant, and whether it is as it should be.
+fn verdict(m: &Mutant, tried: &Result<(bool, bool), String>) -> (String, bool) {
+    match (tried, &m.same) {
+        (Err(why), _) => (why.clone(), false),
+        (Ok((true, true)), Some(why)) => (format!("no other model: {why}"), true),
+        (Ok((agree, holds)), same) => {
+            let by = |found: bool| if found { "found" } else { "not found" };
+            (format!("{} by the runs, {} by the list", by(!agree), by(!holds)), !agree && same.is_none())
+        }
+    }
+}
+
+/// All mutants, and what came of those tried so far.
+struct Trial {
+    here: PathBuf,
+    all: Vec<Mutant>,
+    next: AtomicUsize,
+    told: AtomicUsize,
+    wrong: Mutex<Vec<String>>,
+}
+
+impl Trial {
+    /// Tries one mutant after the other in the copy of that number, until none is left.
+    fn work(&self, n: usize) {
+        let folder = self.here.join(format!("target/mutants/{n}"));
+        copy(&self.here, &folder).expect("a copy of the workspace");
+        while let Some(m) = self.all.get(self.next.fetch_add(1, Ordering::Relaxed)) {
+            let tried = attempt(m, &self.here, &folder);
+            self.told.fetch_add(matches!(tried, Ok((_, false))) as usize, Ordering::Relaxed);
+            let (line, fine) = verdict(m, &tried);
+            println!("{:42} {line}", m.name);
+            if !fine {
+                self.wrong.lock().expect("a list").push(m.name.clone());
+            }
+        }
+    }
+
+    /// Prints the sums, and says whether all is as it should be.
+    fn sums(self) -> bool {
+        let same = self.all.iter().filter(|m| m.same.is_some()).count();
+        let wrong = self.wrong.into_inner().expect("a list");
+        println!(
+            "{} mutants, {same} of them no other model, {} found by the list; not as they should be: {}",
+            self.all.len(),
+            self.told.into_inner(),
+            wrong.len()
+        );
+        wrong.iter().for_each(|name| println!("  {name}"));
+        wrong.is_empty()
+    }
+}
+
 fn main() {
     let here = env::current_dir().expect("a folder");
     env::set_var("VEXIL_SRC", source(&here));
     let wanted: Vec<String> = env::args().skip(1).collect();
     let mut all = mutants(&fs::read_to_string("mutants.txt").expect("mutants.txt"));
     all.retain(|m| wanted.is_empty() || wanted.contains(&m.name));
-    let (next, wrong, told) = (AtomicUsize::new(0), Mutex::new(Vec::new()), AtomicUsize::new(0));
-    let work = &|n: usize| {
-        let folder = here.join(format!("target/mutants/{n}"));
-        copy(&here, &folder).expect("a copy of the workspace");
-        while let Some(m) = all.get(next.fetch_add(1, Ordering::Relaxed)) {
-            let (line, fine) = match (attempt(m, &here, &folder), &m.same) {
-                (Err(why), _) => (why, false),
-                (Ok((true, true)), Some(why)) => (format!("no other model: {why}"), true),
-                (Ok((agree, holds)), same) => {
-                    told.fetch_add(!holds as usize, Ordering::Relaxed);
-                    let by = |found: bool| if found { "found" } else { "not found" };
-                    (format!("{} by the runs, {} by the list", by(!agree), by(!holds)), !agree && same.is_none())
-                }
-            };
-            println!("{:42} {line}", m.name);
-            if !fine {
-                wrong.lock().expect("a list").push(m.name.clone());
-            }
+    let trial = Trial { here, all, next: AtomicUsize::new(0), told: AtomicUsize::new(0), wrong: Mutex::default() };
+    std::thread::scope(|s| {
+        for n in 0..2 {
+            let trial = &trial;
+            s.spawn(move || trial.work(n));
         }
-    };
-    std::thread::scope(|s| (0..2).for_each(|n| {
-        s.spawn(move || work(n));
-    }));
-    let same = all.iter().filter(|m| m.same.is_some()).count();
-    let wrong = wrong.into_inner().expect("a list");
-    println!("{} mutants, {same} of them no other model, {} found by the list; not as they should be: {}", all.len(), told.load(Ordering::Relaxed), wrong.len());
-    wrong.iter().for_each(|name| println!("  {name}"));
-    std::process::exit(!wrong.is_empty() as i32);
+    });
+    std::process::exit(!trial.sums() as i32);
 }

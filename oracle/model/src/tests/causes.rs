@@ -93,10 +93,7 @@ fn cause_3() {
 #[test]
 fn cause_4() {
     for kind in [0, 17, 18, 19, 26, 29, 37, 40, 255] {
-        assert_eq!(
-            reply(&[(1, 0, 0, 0, 0, 0), (kind, 0, 0, 0, 0, 0)]),
-            refused(4, 1)
-        );
+        assert_eq!(reply(&[(1, 0, 0, 0, 0, 0), (kind, 0, 0, 0, 0, 0)]), refused(4, 1));
     }
     let outside = [
         (1, 14, 0, 0, 0, 0),
@@ -140,14 +137,7 @@ fn cause_4() {
         assert_eq!(reply(&[it]), refused(4, 0), "{it:?}");
     }
     // Value has any v, kind 9 any a, sub-byte 0 bits.
-    assert_eq!(
-        reply(&[
-            (16, 4, 0, 0, 0, 9),
-            (9, 0, 65_535, 0, 0, 0),
-            (2, 0, 0, 0, 0, 0)
-        ]),
-        accepted(0, 0, 0)
-    );
+    assert_eq!(reply(&[(16, 4, 0, 0, 0, 9), (9, 0, 65_535, 0, 0, 0), (2, 0, 0, 0, 0, 0)]), accepted(0, 0, 0));
 }
 
 #[test]
@@ -159,17 +149,11 @@ fn cause_5() {
     assert_eq!(reply(&[(22, 0, 0, 65_535, 0, 0)]), refused(5, 0));
     // The wrong group.
     assert_eq!(reply(&[one, (7, 0, 0, 0, 0, 0)]), refused(5, 1));
-    assert_eq!(
-        reply(&[(20, 0, 0, 0, 0, 0), (22, 0, 1, 0, 0, 0)]),
-        refused(5, 1)
-    );
+    assert_eq!(reply(&[(20, 0, 0, 0, 0, 0), (22, 0, 1, 0, 0, 0)]), refused(5, 1));
     assert_eq!(reply(&[text, (13, 2, 0, 0, 0, 0)]), refused(5, 1));
     assert_eq!(reply(&[u8, one, (24, 0, 1, 1, 0, 0)]), refused(5, 2));
     // Used before, also by the same record.
-    assert_eq!(
-        reply(&[u8, (7, 0, 0, 0, 0, 0), (7, 0, 0, 0, 0, 0)]),
-        refused(5, 2)
-    );
+    assert_eq!(reply(&[u8, (7, 0, 0, 0, 0, 0), (7, 0, 0, 0, 0, 0)]), refused(5, 2));
     assert_eq!(reply(&[u8, (8, 0, 0, 0, 0, 0)]), refused(5, 1));
     assert_eq!(reply(&[text, (15, 0, 0, 0, 0, 0)]), refused(5, 1));
     // 5 before 6.
@@ -227,66 +211,28 @@ fn cause_6_the_record_before() {
 
 #[test]
 fn cause_6_the_latest_declaration() {
-    let (message, union, ambiguous) = (
-        (20, 0, 1, 0, 0, 0),
-        (21, 0, 2, 0, 0, 0),
-        (25, 0, 1, 0, 0, 0),
-    );
-    let (of_variant, of_union, variant) = (
-        (32, 0, 0, 0, NONE, 0),
-        (32, 1, 0, 0, NONE, 0),
-        (33, 0, 1, 0, 0, 0),
-    );
+    let (message, union, ambiguous) = ((20, 0, 1, 0, 0, 0), (21, 0, 2, 0, 0, 0), (25, 0, 1, 0, 0, 0));
+    let (of_variant, of_union, variant) = ((32, 0, 0, 0, NONE, 0), (32, 1, 0, 0, NONE, 0), (33, 0, 1, 0, 0, 0));
     assert_eq!(reply(&[of_variant]), refused(6, 0));
     assert_eq!(reply(&[message, of_union]), refused(6, 1));
     assert_eq!(reply(&[message, variant]), refused(6, 1));
     assert_eq!(reply(&[message, ambiguous, of_variant]), refused(6, 2));
     assert_eq!(reply(&[union, of_variant]), refused(6, 1));
-    assert_eq!(
-        reply(&[union, of_union, variant, of_variant, of_variant]),
-        accepted(5, 0, 0)
-    );
-    assert_eq!(
-        reply(&[union, variant, of_union, of_variant]),
-        refused(6, 3)
-    );
-    assert_eq!(
-        reply(&[union, variant, of_union, variant, of_variant]),
-        accepted(5, 0, 0)
-    );
+    assert_eq!(reply(&[union, of_union, variant, of_variant, of_variant]), accepted(5, 0, 0));
+    assert_eq!(reply(&[union, variant, of_union, of_variant]), refused(6, 3));
+    assert_eq!(reply(&[union, variant, of_union, variant, of_variant]), accepted(5, 0, 0));
     // A variant of an earlier union does not count.
-    assert_eq!(
-        reply(&[union, variant, (21, 0, 3, 0, 0, 0), of_variant]),
-        refused(6, 3)
-    );
+    assert_eq!(reply(&[union, variant, (21, 0, 3, 0, 0, 0), of_variant]), refused(6, 3));
 }
 
 #[test]
 fn cause_7() {
     let (u8, one) = ((1, 1, 0, 0, 0, 0), (10, 0, 0, 0, 0, 1));
-    assert_eq!(
-        reply(&[u8, (20, 0, 1, 0, 0, 0), (23, 0, 1, 0, 0, 0)]),
-        refused(7, 2)
-    );
-    assert_eq!(
-        reply(&[(25, 0, 1, 0, 0, 0), (25, 0, 1, 0, 0, 0)]),
-        refused(7, 1)
-    );
-    assert_eq!(
-        reply(&[u8, one, (24, 0, 1, 0, 1, 0), u8, one, (24, 0, 1, 3, 4, 0)]),
-        refused(7, 5)
-    );
+    assert_eq!(reply(&[u8, (20, 0, 1, 0, 0, 0), (23, 0, 1, 0, 0, 0)]), refused(7, 2));
+    assert_eq!(reply(&[(25, 0, 1, 0, 0, 0), (25, 0, 1, 0, 0, 0)]), refused(7, 1));
+    assert_eq!(reply(&[u8, one, (24, 0, 1, 0, 1, 0), u8, one, (24, 0, 1, 3, 4, 0)]), refused(7, 5));
     // The three sets are apart.
-    assert_eq!(
-        reply(&[
-            u8,
-            one,
-            (24, 0, 1, 0, 1, 0),
-            (25, 0, 1, 0, 0, 0),
-            (21, 0, 1, 0, 0, 0)
-        ]),
-        accepted(3, 0, 1)
-    );
+    assert_eq!(reply(&[u8, one, (24, 0, 1, 0, 1, 0), (25, 0, 1, 0, 0, 0), (21, 0, 1, 0, 0, 0)]), accepted(3, 0, 1));
 }
 
 /// A tree of a depth, made of a leaf and one record on top for each further level; then what uses it.
@@ -404,11 +350,7 @@ fn cause_9_or_10_first_met() {
         let argument = book.primitive(U8);
         let deep = book.generic(10, argument);
         let u8 = book.primitive(U8);
-        let both = if deep_left {
-            book.map(deep, u8)
-        } else {
-            book.map(u8, deep)
-        };
+        let both = if deep_left { book.map(deep, u8) } else { book.map(u8, deep) };
         let at = book.newtype(20, both);
         assert_eq!(book.reply_with(0, 0), refused(number, u32::from(at)));
     }
@@ -432,11 +374,7 @@ fn a_constants_type_is_met_before_its_message_5() {
 /// Aliases 100, 101, ... each a map of the one before twice; generic where asked.
 fn doubling(levels: u16, generic: bool) -> (Maker, u32) {
     let mut book = Maker::default();
-    let target = if generic {
-        book.named(1)
-    } else {
-        book.primitive(U8)
-    };
+    let target = if generic { book.named(1) } else { book.primitive(U8) };
     book.alias(100, target);
     if generic {
         book.parameter(1);
@@ -494,11 +432,7 @@ fn cause_10_for_diagnostics() {
             let unknown = book.named(2);
             last = book.field(field, unknown, 0);
         }
-        let expected = if full {
-            refused(10, u32::from(last))
-        } else {
-            accepted(769, 256, 0)
-        };
+        let expected = if full { refused(10, u32::from(last)) } else { accepted(769, 256, 0) };
         assert_eq!(book.lower().reply, expected);
     }
 }

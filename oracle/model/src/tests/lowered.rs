@@ -11,10 +11,7 @@ fn newtype_of(mut book: Maker, child: u16) -> Lowered {
 #[test]
 fn steps_of_a_name() {
     // An ambiguous name is poison even as a generic alias; a declared one is not asked.
-    let mut book = Maker {
-        wildcards: true,
-        ..Maker::default()
-    };
+    let mut book = Maker { wildcards: true, ..Maker::default() };
     let target = book.primitive(U8);
     book.alias(10, target);
     book.parameter(1);
@@ -28,21 +25,10 @@ fn steps_of_a_name() {
     let right = book.map(ambiguous, stub);
     let all = book.map(left, right);
     let lowered = newtype_of(book, all);
-    let leaves: Vec<u64> = lowered
-        .results
-        .iter()
-        .filter(|it| it.kind == 4)
-        .map(|it| it.v)
-        .collect();
+    let leaves: Vec<u64> = lowered.results.iter().filter(|it| it.kind == 4).map(|it| it.v).collect();
     // Numbers: 11 is 0, 20 is 1, 10 is 2, the stub 3.
     assert_eq!(leaves, [u64::from(u32::MAX), 0, u64::from(u32::MAX), 3]);
-    assert_eq!(
-        lowered.diagnostics,
-        [
-            diagnostic(0, 10, 0, 0, generic),
-            diagnostic(0, 12, 0, 0, ambiguous)
-        ]
-    );
+    assert_eq!(lowered.diagnostics, [diagnostic(0, 10, 0, 0, generic), diagnostic(0, 12, 0, 0, ambiguous)]);
     assert_eq!(lowered.trace.numbers, [2, 3, 3, 3, 4]);
 }
 
@@ -72,10 +58,7 @@ fn a_plain_alias_is_copied_without_its_diagnostics() {
 #[test]
 fn a_stub_hides_a_later_plain_alias_from_the_lookup_only() {
     // 10 = 11 makes a stub for 11 (number 1); then 11 = u8; 11::5 has a namespace with a number.
-    let mut book = Maker {
-        wildcards: true,
-        ..Maker::default()
-    };
+    let mut book = Maker { wildcards: true, ..Maker::default() };
     let early = book.named(11);
     book.alias(10, early);
     let u8 = book.primitive(U8);
@@ -86,10 +69,7 @@ fn a_stub_hides_a_later_plain_alias_from_the_lookup_only() {
     let all = book.map(left, again);
     let lowered = newtype_of(book, all);
     assert_eq!(lowered.diagnostics, []);
-    let kinds: Vec<(u8, u64)> = lowered.results[4..9]
-        .iter()
-        .map(|it| (it.kind, it.v))
-        .collect();
+    let kinds: Vec<(u8, u64)> = lowered.results[4..9].iter().map(|it| (it.kind, it.v)).collect();
     assert_eq!(kinds, [(1, 0), (4, 2), (8, 0), (4, 2), (8, 0)]);
 }
 
@@ -118,29 +98,14 @@ fn heads_of_generics() {
     let bare = book.named(10);
     book.alias(30, bare);
     let arguments: Vec<u16> = (0..3).map(|_| book.primitive(U8)).collect();
-    let (through, newtype) = (
-        book.generic(30, arguments[0]),
-        book.generic(20, arguments[1]),
-    );
+    let (through, newtype) = (book.generic(30, arguments[0]), book.generic(20, arguments[1]));
     let left = book.map(through, newtype);
     let nothing = book.generic(31, arguments[2]);
     let all = book.map(left, nothing);
     let lowered = newtype_of(book, all);
-    let expected = [
-        record(1, U8, 0, 0, 0, 0),
-        record(7, 1, 2, 0, 0, 0),
-        poison(),
-        record(8, 0, 3, 4, 0, 0),
-        poison(),
-    ];
+    let expected = [record(1, U8, 0, 0, 0, 0), record(7, 1, 2, 0, 0, 0), poison(), record(8, 0, 3, 4, 0, 0), poison()];
     assert_eq!(lowered.results[2..7], expected);
-    assert_eq!(
-        lowered.diagnostics,
-        [
-            diagnostic(3, 20, 0, 1, newtype),
-            diagnostic(4, 31, 0, 0, nothing)
-        ]
-    );
+    assert_eq!(lowered.diagnostics, [diagnostic(3, 20, 0, 1, newtype), diagnostic(4, 31, 0, 0, nothing)]);
 }
 
 #[test]
@@ -167,11 +132,7 @@ fn spans_and_messages_inside_a_substitution() {
     let left = book.map(first, second);
     let all = book.map(left, third);
     let lowered = newtype_of(book, all);
-    let expected = [
-        diagnostic(1, 40, 0, 0, first),
-        diagnostic(4, 41, 0, 0, second),
-        diagnostic(1, 42, 0, 0, part),
-    ];
+    let expected = [diagnostic(1, 40, 0, 0, first), diagnostic(4, 41, 0, 0, second), diagnostic(1, 42, 0, 0, part)];
     assert_eq!(lowered.diagnostics, expected);
 }
 
@@ -190,18 +151,10 @@ fn the_order_of_constants() {
     book.constant(4, undeclared);
     let lowered = book.lower();
     assert_eq!(lowered.reply, accepted(8, 3, 1));
-    let done: Vec<(u16, u8, u64)> = lowered
-        .results
-        .iter()
-        .filter(|it| it.kind == 41)
-        .map(|it| (it.a, it.sub, it.v))
-        .collect();
+    let done: Vec<(u16, u8, u64)> =
+        lowered.results.iter().filter(|it| it.kind == 41).map(|it| (it.a, it.sub, it.v)).collect();
     assert_eq!(done, [(3, 1, 5), (4, 0, 0), (2, 0, 0), (1, 0, 0)]);
-    let expected = [
-        diagnostic(5, 4, 0, 2, undeclared),
-        diagnostic(5, 2, 0, 2, four),
-        diagnostic(5, 1, 0, 2, sum),
-    ];
+    let expected = [diagnostic(5, 4, 0, 2, undeclared), diagnostic(5, 2, 0, 2, four), diagnostic(5, 1, 0, 2, sum)];
     assert_eq!(lowered.diagnostics, expected);
 }
 
@@ -245,22 +198,13 @@ fn a_constants_type_comes_before_message_5() {
     let (child, expression) = (book.named(7), book.reference(99));
     book.add(24, 0, 1, child, expression, 0);
     let lowered = book.lower();
-    assert_eq!(
-        lowered.diagnostics,
-        [
-            diagnostic(1, 7, 0, 0, child),
-            diagnostic(5, 1, 0, 2, expression)
-        ]
-    );
+    assert_eq!(lowered.diagnostics, [diagnostic(1, 7, 0, 0, child), diagnostic(5, 1, 0, 2, expression)]);
     assert_eq!(lowered.trace.bare, [(2, 7)]);
 }
 
 #[test]
 fn the_trace_of_constants() {
-    let mut book = Maker {
-        wildcards: true,
-        ..Maker::default()
-    };
+    let mut book = Maker { wildcards: true, ..Maker::default() };
     let known = book.named(5);
     book.alias(6, known);
     let mut constant = |name, make: &dyn Fn(&mut Maker) -> u16| {
@@ -338,10 +282,7 @@ fn a_body_with_everything() {
 #[test]
 fn carried_through() {
     let mut book = Maker::default();
-    let (bits, list) = (
-        book.add(2, 1, 255, 0, 0, 0),
-        book.add(9, 0, 65_535, 0, 0, 0),
-    );
+    let (bits, list) = (book.add(2, 1, 255, 0, 0, 0), book.add(9, 0, 65_535, 0, 0, 0));
     let fixed = book.add(7, 2, bits, 0, 0, u64::MAX);
     let both = book.add(8, 1, fixed, list, 0, 0);
     let expected = [

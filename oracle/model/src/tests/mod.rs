@@ -21,38 +21,23 @@ struct Maker {
 }
 
 fn span_of(number: u16) -> Span {
-    Span {
-        offset: 1_000 + u32::from(number),
-        length: 7 + u32::from(number),
-    }
+    Span { offset: 1_000 + u32::from(number), length: 7 + u32::from(number) }
 }
 
 /// A record with its span at 0.
 fn record(kind: u8, sub: u8, a: u16, b: u16, c: u16, v: u64) -> Record {
-    Record {
-        kind,
-        sub,
-        a,
-        b,
-        c,
-        v,
-        span: Span::default(),
-    }
+    Record { kind, sub, a, b, c, v, span: Span::default() }
 }
 
 /// The record with the span that the book's record `number` has.
 fn spanned(record: Record, number: u16) -> Record {
-    Record {
-        span: span_of(number),
-        ..record
-    }
+    Record { span: span_of(number), ..record }
 }
 
 impl Maker {
     fn add(&mut self, kind: u8, sub: u8, a: u16, b: u16, c: u16, v: u64) -> u16 {
         let number = self.records.len() as u16;
-        self.records
-            .push(spanned(record(kind, sub, a, b, c, v), number));
+        self.records.push(spanned(record(kind, sub, a, b, c, v), number));
         number
     }
     fn primitive(&mut self, sub: u8) -> u16 {
@@ -141,12 +126,7 @@ impl Maker {
 
     /// The reply with slices of so many bytes.
     fn reply_with(&self, results: usize, diagnostics: usize) -> Reply {
-        lower_book(
-            &self.bytes(),
-            &mut vec![LENT; results],
-            &mut vec![LENT; diagnostics],
-        )
-        .0
+        lower_book(&self.bytes(), &mut vec![LENT; results], &mut vec![LENT; diagnostics]).0
     }
 }
 
@@ -175,11 +155,7 @@ fn lower(book: &[u8]) -> Lowered {
     let (mut results, mut diagnostics) = (vec![LENT; 49_152 + 30], vec![LENT; 6_144 + 30]);
     let (reply, trace) = lower_book(book, &mut results, &mut diagnostics);
     let (result_count, diagnostic_count) = match reply {
-        Reply::Accepted {
-            results,
-            diagnostics,
-            ..
-        } => (results as usize, diagnostics as usize),
+        Reply::Accepted { results, diagnostics, .. } => (results as usize, diagnostics as usize),
         Reply::Refused { number, .. } => {
             let cleared = if number >= 9 { (49_152, 6_144) } else { (0, 0) };
             check_refused_slice(&results, cleared.0);
@@ -188,19 +164,10 @@ fn lower(book: &[u8]) -> Lowered {
         }
     };
     if matches!(reply, Reply::Accepted { .. }) {
-        assert!(results[24 * result_count..]
-            .iter()
-            .all(|&byte| byte == LENT));
-        assert!(diagnostics[24 * diagnostic_count..]
-            .iter()
-            .all(|&byte| byte == LENT));
+        assert!(results[24 * result_count..].iter().all(|&byte| byte == LENT));
+        assert!(diagnostics[24 * diagnostic_count..].iter().all(|&byte| byte == LENT));
     }
-    Lowered {
-        reply,
-        results: take(&results, result_count),
-        diagnostics: take(&diagnostics, diagnostic_count),
-        trace,
-    }
+    Lowered { reply, results: take(&results, result_count), diagnostics: take(&diagnostics, diagnostic_count), trace }
 }
 
 fn check_refused_slice(slice: &[u8], cleared: usize) {
@@ -210,17 +177,11 @@ fn check_refused_slice(slice: &[u8], cleared: usize) {
 
 fn take(slice: &[u8], count: usize) -> Vec<Record> {
     let whole = slice.chunks_exact(24).take(count);
-    whole
-        .map(|bytes| Record::from_bytes(bytes.try_into().unwrap()))
-        .collect()
+    whole.map(|bytes| Record::from_bytes(bytes.try_into().unwrap())).collect()
 }
 
 fn accepted(results: u32, diagnostics: u32, constants: u32) -> Reply {
-    Reply::Accepted {
-        results,
-        diagnostics,
-        constants,
-    }
+    Reply::Accepted { results, diagnostics, constants }
 }
 
 fn refused(number: u8, place: u32) -> Reply {

@@ -2,27 +2,13 @@
 
 use super::*;
 
-const U8_RESULT: Record = Record {
-    kind: 1,
-    sub: 1,
-    a: 0,
-    b: 0,
-    c: 0,
-    v: 0,
-    span: Span {
-        offset: 0,
-        length: 0,
-    },
-};
+const U8_RESULT: Record = Record { kind: 1, sub: 1, a: 0, b: 0, c: 0, v: 0, span: Span { offset: 0, length: 0 } };
 
 /// A 41 of type u8 right behind that type.
 fn done(name: u16, at_result: u16, value: Option<i64>, declared: u16) -> [Record; 2] {
     let sub = u8::from(value.is_some());
     let v = value.unwrap_or(0) as u64;
-    [
-        U8_RESULT,
-        spanned(record(41, sub, name, at_result, 0, v), declared),
-    ]
+    [U8_RESULT, spanned(record(41, sub, name, at_result, 0, v), declared)]
 }
 
 /// One constant N1 of type u8 with the expression that `make` builds: its value, and the diagnostics.
@@ -60,10 +46,7 @@ fn k1() {
     let second = book.constant(2, product);
     let lowered = book.lower();
     assert_eq!(lowered.reply, accepted(4, 0, 2));
-    assert_eq!(
-        lowered.results,
-        [done(1, 0, Some(6), first), done(2, 2, Some(42), second)].concat()
-    );
+    assert_eq!(lowered.results, [done(1, 0, Some(6), first), done(2, 2, Some(42), second)].concat());
     assert_eq!(lowered.trace.results, [0, 0, 0, 4, 4]);
 }
 
@@ -74,10 +57,7 @@ fn k2_to_k4() {
         book.operation(0, left, right)
     };
     assert_eq!(alone(sum), None);
-    assert_eq!(
-        alone(|book| book.add(10, 1, 0, 0, 0, 1 << 63)),
-        Some(i64::MIN)
-    );
+    assert_eq!(alone(|book| book.add(10, 1, 0, 0, 0, 1 << 63)), Some(i64::MIN));
     assert_eq!(divided(i64::MIN, -1), None);
 }
 
@@ -149,10 +129,7 @@ fn encodings() {
     // A field that is delta already keeps its base under a message's delta.
     assert_eq!(encoding(true, U16, &[1, 2]), record(46, 2, 1, 0, 0, 0));
     // The fourteen rows, over zigzag: Bool and Void stay as they are.
-    let rows: Vec<(u8, u16)> = (0..14)
-        .map(|sub| encoding(true, sub, &[1]))
-        .map(|it| (it.sub, it.a))
-        .collect();
+    let rows: Vec<(u8, u16)> = (0..14).map(|sub| encoding(true, sub, &[1])).map(|it| (it.sub, it.a)).collect();
     let expected = [[(2, 0)].as_slice(), &[(1, 1); 4], &[(2, 1); 8], &[(2, 0)]].concat();
     assert_eq!(rows, expected);
     let over_varint: Vec<u8> = (0..14).map(|sub| encoding(true, sub, &[0]).sub).collect();
@@ -176,13 +153,8 @@ fn a_messages_delta_reaches_sub_bytes_and_aliases_only() {
     book.variant(6, 0);
     let child = book.primitive(U16);
     book.field(7, child, 0);
-    let found: Vec<(u8, u16)> = book
-        .lower()
-        .results
-        .iter()
-        .filter(|it| it.kind == 46)
-        .map(|it| (it.sub, it.a))
-        .collect();
+    let found: Vec<(u8, u16)> =
+        book.lower().results.iter().filter(|it| it.kind == 46).map(|it| (it.sub, it.a)).collect();
     assert_eq!(found, [(0, 1), (2, 1), (0, 0), (0, 0)]);
 }
 
@@ -242,11 +214,7 @@ fn k10_does_not_substitute_t() {
     let (book, u, declared) = outer_and_inner();
     let lowered = book.lower();
     assert_eq!(lowered.reply, accepted(3, 1, 0));
-    let expected = [
-        poison(),
-        record(7, 1, 0, 0, 0, 0),
-        spanned(record(48, 0, 20, 1, 0, 0), declared),
-    ];
+    let expected = [poison(), record(7, 1, 0, 0, 0, 0), spanned(record(48, 0, 20, 1, 0, 0), declared)];
     assert_eq!(lowered.results, expected);
     // The argument T as a whole takes the span of U.
     assert_eq!(lowered.diagnostics, [diagnostic(1, 1, 0, 0, u)]);
@@ -266,12 +234,7 @@ fn k11() {
     let declared = book.newtype(20, used);
     let lowered = book.lower();
     assert_eq!(lowered.reply, accepted(4, 1, 0));
-    let expected = [
-        U8_RESULT,
-        poison(),
-        record(8, 0, 0, 1, 0, 0),
-        spanned(record(48, 0, 20, 2, 0, 0), declared),
-    ];
+    let expected = [U8_RESULT, poison(), record(8, 0, 0, 1, 0, 0), spanned(record(48, 0, 20, 2, 0, 0), declared)];
     assert_eq!(lowered.results, expected);
     assert_eq!(lowered.diagnostics, [diagnostic(1, 2, 0, 0, u)]);
 }
@@ -286,19 +249,13 @@ fn k12() {
     let declared = book.newtype(20, bare);
     let lowered = book.lower();
     assert_eq!(lowered.reply, accepted(2, 0, 0));
-    assert_eq!(
-        lowered.results,
-        [number(1), spanned(record(48, 0, 20, 0, 0, 0), declared)]
-    );
+    assert_eq!(lowered.results, [number(1), spanned(record(48, 0, 20, 0, 0, 0), declared)]);
 }
 
 #[test]
 fn no_stub_for_an_unknown_generic_head() {
     for wildcards in [false, true] {
-        let mut book = Maker {
-            wildcards,
-            ..Maker::default()
-        };
+        let mut book = Maker { wildcards, ..Maker::default() };
         let argument = book.primitive(U8);
         let used = book.generic(10, argument);
         book.newtype(20, used);

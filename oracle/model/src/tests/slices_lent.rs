@@ -22,18 +22,12 @@ fn slices_of_few_bytes() {
     let at = book.message(1);
     let bytes = book.bytes();
     for length in [0, 23] {
-        assert_eq!(
-            lend(&bytes, length, 47),
-            (refused(10, u32::from(at)), cleared(length), cleared(47))
-        );
+        assert_eq!(lend(&bytes, length, 47), (refused(10, u32::from(at)), cleared(length), cleared(47)));
     }
     for length in [24, 47] {
         let (reply, results, diagnostics) = lend(&bytes, length, 23);
         assert_eq!(reply, accepted(1, 0, 0));
-        assert_eq!(
-            results[..24],
-            spanned(record(42, 0, 1, 0, 0, 0), at).to_bytes()
-        );
+        assert_eq!(results[..24], spanned(record(42, 0, 1, 0, 0, 0), at).to_bytes());
         assert_eq!(results[24..], vec![LENT; length - 24]);
         assert_eq!(diagnostics, [LENT; 23]);
     }
@@ -46,25 +40,16 @@ fn diagnostics_of_few_bytes() {
     let at = book.newtype(1, unknown);
     let bytes = book.bytes();
     for length in [0, 23] {
-        assert_eq!(
-            lend(&bytes, 100, length),
-            (refused(10, u32::from(at)), cleared(100), cleared(length))
-        );
+        assert_eq!(lend(&bytes, 100, length), (refused(10, u32::from(at)), cleared(100), cleared(length)));
     }
     for length in [24, 47] {
         let (reply, results, diagnostics) = lend(&bytes, 48, length);
         assert_eq!(reply, accepted(2, 1, 0));
         assert_eq!(results[..24], poison().to_bytes());
-        assert_eq!(
-            diagnostics[..24],
-            diagnostic(1, 5, 0, 0, unknown).to_bytes()
-        );
+        assert_eq!(diagnostics[..24], diagnostic(1, 5, 0, 0, unknown).to_bytes());
         assert_eq!(diagnostics[24..], vec![LENT; length - 24]);
     }
-    assert_eq!(
-        lend(&bytes, 47, 24),
-        (refused(10, u32::from(at)), cleared(47), cleared(24))
-    );
+    assert_eq!(lend(&bytes, 47, 24), (refused(10, u32::from(at)), cleared(47), cleared(24)));
 }
 
 #[test]
@@ -77,9 +62,7 @@ fn the_place_of_10_in_a_body() {
     let tombstone = book.add(32, 0, 0, 0, gone, 1);
     let union = book.union(3);
     let variant = book.variant(4, 0);
-    let places = [
-        message, field, field, field, tombstone, tombstone, union, variant,
-    ];
+    let places = [message, field, field, field, tombstone, tombstone, union, variant];
     for (room, place) in places.into_iter().enumerate() {
         assert_eq!(book.reply_with(24 * room, 0), refused(10, u32::from(place)));
     }
@@ -94,10 +77,7 @@ fn the_place_of_10_elsewhere() {
     let expression = book.reference(9);
     let constant = book.constant(1, expression);
     for (room, place) in [alias, alias, constant, constant].into_iter().enumerate() {
-        assert_eq!(
-            book.reply_with(24 * room, 24),
-            refused(10, u32::from(place))
-        );
+        assert_eq!(book.reply_with(24 * room, 24), refused(10, u32::from(place)));
     }
     assert_eq!(book.reply_with(96, 0), refused(10, u32::from(constant)));
     assert_eq!(book.reply_with(96, 24), accepted(4, 1, 0));
@@ -108,10 +88,7 @@ struct Dice(u64);
 
 impl Dice {
     fn below(&mut self, bound: u64) -> u64 {
-        self.0 = self
-            .0
-            .wrapping_mul(6_364_136_223_846_793_005)
-            .wrapping_add(1_442_695_040_888_963_407);
+        self.0 = self.0.wrapping_mul(6_364_136_223_846_793_005).wrapping_add(1_442_695_040_888_963_407);
         (self.0 >> 33) % bound
     }
 }
@@ -120,9 +97,7 @@ impl Dice {
 fn any_bytes_at_all() {
     let mut dice = Dice(1);
     for _ in 0..300 {
-        let mut bytes: Vec<u8> = (0..512 * (1 + dice.below(3)))
-            .map(|_| dice.below(256) as u8)
-            .collect();
+        let mut bytes: Vec<u8> = (0..512 * (1 + dice.below(3))).map(|_| dice.below(256) as u8).collect();
         lower(&bytes);
         seal(&mut bytes);
         lower(&bytes);
@@ -148,11 +123,7 @@ fn books_by_chance() {
         let book = by_chance(&mut dice);
         let lowered = book.lower();
         match lowered.reply {
-            Reply::Accepted {
-                results,
-                diagnostics,
-                constants,
-            } => {
+            Reply::Accepted { results, diagnostics, constants } => {
                 met[0] += 1;
                 check_accepted(&lowered, constants);
                 // One record less of room in either slice is 10.
@@ -168,19 +139,12 @@ fn books_by_chance() {
             Reply::Refused { number, .. } => met[usize::from(number)] += 1,
         }
     }
-    assert!(
-        met[0] > 200 && met[4] > 0 && met[5] > 0 && met[6] > 0 && met[7] > 0 && met[9] > 0,
-        "{met:?}"
-    );
+    assert!(met[0] > 200 && met[4] > 0 && met[5] > 0 && met[6] > 0 && met[7] > 0 && met[9] > 0, "{met:?}");
 }
 
 /// What every accepted lowering has: stored 41s as counted, every child earlier and used once.
 fn check_accepted(lowered: &Lowered, constants: u32) {
-    let stored = lowered
-        .results
-        .iter()
-        .filter(|it| it.kind == 41 && it.sub == 1)
-        .count();
+    let stored = lowered.results.iter().filter(|it| it.kind == 41 && it.sub == 1).count();
     assert_eq!(stored, constants as usize);
     let mut used = vec![false; lowered.results.len()];
     for (number, it) in lowered.results.iter().enumerate() {
@@ -192,11 +156,7 @@ fn check_accepted(lowered: &Lowered, constants: u32) {
             (47, _) => vec![it.c],
             _ => vec![],
         };
-        for child in children
-            .into_iter()
-            .filter(|&child| child != NONE)
-            .map(usize::from)
-        {
+        for child in children.into_iter().filter(|&child| child != NONE).map(usize::from) {
             assert!(child < number && !used[child]);
             used[child] = true;
         }
@@ -205,10 +165,7 @@ fn check_accepted(lowered: &Lowered, constants: u32) {
 
 /// A book of a few blocks, whose records mostly take children that are free.
 fn by_chance(dice: &mut Dice) -> Maker {
-    let mut book = Chance {
-        book: Maker::default(),
-        free: Default::default(),
-    };
+    let mut book = Chance { book: Maker::default(), free: Default::default() };
     book.book.wildcards = dice.below(2) == 0;
     for _ in 0..1 + dice.below(40) {
         book.add(dice);

@@ -41,14 +41,7 @@ const OPERATORS: [BinOpKind; 10] = [
     BinOpKind::Ge,
 ];
 
-const COMPARISONS: [CmpOp; 6] = [
-    CmpOp::Eq,
-    CmpOp::Ne,
-    CmpOp::Lt,
-    CmpOp::Gt,
-    CmpOp::Le,
-    CmpOp::Ge,
-];
+const COMPARISONS: [CmpOp; 6] = [CmpOp::Eq, CmpOp::Ne, CmpOp::Lt, CmpOp::Gt, CmpOp::Le, CmpOp::Ge];
 
 const ANNOTATIONS: [&str; 5] = ["varint", "zigzag", "delta", "limit", "other"];
 
@@ -68,13 +61,7 @@ pub(super) fn schema(records: &[Record]) -> Schema {
         }
     }
     declarations.reverse();
-    Schema {
-        span: Span::empty(0),
-        annotations: Vec::new(),
-        namespace: None,
-        imports: Vec::new(),
-        declarations,
-    }
+    Schema { span: Span::empty(0), annotations: Vec::new(), namespace: None, imports: Vec::new(), declarations }
 }
 
 /// A declaration with its items. A name that is ambiguous between imports declares nothing.
@@ -112,11 +99,7 @@ fn parameter(r: Record) -> TypeParam {
 /// A message: annotations of its own stand before every other item.
 fn message(records: &[Record], r: Record, items: &[Record]) -> MessageDecl {
     let own = items.iter().take_while(|i| i.kind == 34 || i.kind == 35).count();
-    MessageDecl {
-        annotations: annotations(&items[..own]),
-        name: spanned_name(r),
-        body: body(records, &items[own..]),
-    }
+    MessageDecl { annotations: annotations(&items[..own]), name: spanned_name(r), body: body(records, &items[own..]) }
 }
 
 /// The items from one that `starts` a part up to the next such one.
@@ -194,11 +177,7 @@ fn argument(r: Record) -> AnnotationArg {
         1 => AnnotationValue::Hex(r.v),
         _ => AnnotationValue::Str("s".to_string()),
     };
-    AnnotationArg {
-        span: r.span,
-        key: (r.a != NONE).then(|| spanned_name(r)),
-        value: Spanned::new(value, r.span),
-    }
+    AnnotationArg { span: r.span, key: (r.a != NONE).then(|| spanned_name(r)), value: Spanned::new(value, r.span) }
 }
 
 fn tombstone(records: &[Record], part: &[Record]) -> Tombstone {

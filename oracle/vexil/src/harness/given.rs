@@ -51,12 +51,7 @@ fn stub(text: &str) -> Stub {
 }
 
 fn constant((text, value): (&SmolStr, &ConstValue)) -> Constant {
-    Constant {
-        name: name(text),
-        value: value.value,
-        resolved: resolved(&value.ty),
-        span: span(value.span),
-    }
+    Constant { name: name(text), value: value.value, resolved: resolved(&value.ty), span: span(value.span) }
 }
 
 pub(super) fn diagnostics(all: impl Iterator<Item = Diagnostic>) -> Vec<facts::Diagnostic> {

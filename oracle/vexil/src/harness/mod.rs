@@ -1,12 +1,12 @@
-//! A module of `lower.rs`: makes the declarations of an accepted book, calls the lowering in document 01's order, and reads off what it
-//! gives. Name 17 is `N17`, string 17 `S17`, list of inline bits 17 `L17`.
+//! A module of `lower.rs`: makes the declarations of an accepted book, calls the lowering in document 01's order, and
+//! reads off what it gives. Name 17 is `N17`, string 17 `S17`, list of inline bits 17 `L17`.
 
 #![warn(warnings)]
 
 use super::*;
 use crate::ast::{
-    AliasDecl, AnnotationArg, MessageDecl, NewtypeDecl, SemanticType, SubByteType, Tombstone,
-    TombstoneArg, TypeParam, UnionDecl, UnionVariant,
+    AliasDecl, AnnotationArg, ImportDecl, MessageDecl, NewtypeDecl, SemanticType, SubByteType, Tombstone, TombstoneArg,
+    TypeParam, UnionDecl, UnionVariant,
 };
 use crate::facts::{self, Lowered};
 use crate::span::Spanned;
@@ -42,6 +42,17 @@ pub fn lower_book(book: &[u8]) -> Lowered {
     run(&schema, &mut ctx)
 }
 
+/// The diagnostics of the original's own entry, which takes another order than document 01. Names that are ambiguous
+/// between imports are left out.
+pub fn lower_with_own_order(book: &[u8]) -> Vec<facts::Diagnostic> {
+    let mut schema = declarations::schema(&records(book));
+    if book[3] == 1 {
+        let import = ImportDecl { kind: ImportKind::Wildcard, path: Vec::new(), version: None };
+        schema.imports.push(Spanned::new(import, Span::empty(0)));
+    }
+    given::diagnostics(lower(&schema).1.into_iter())
+}
+
 /// The calls, in document 01's order, and what each part gives.
 fn run(schema: &Schema, ctx: &mut LowerCtx) -> Lowered {
     let mut given = Lowered::default();
@@ -71,8 +82,7 @@ fn run(schema: &Schema, ctx: &mut LowerCtx) -> Lowered {
 fn constants(schema: &Schema, ctx: &mut LowerCtx, given: &mut Lowered) {
     for decl in &schema.declarations {
         if let Decl::Const(c) = &decl.node {
-            ctx.const_decls
-                .insert(c.name.node.clone(), (c.clone(), decl.span));
+            ctx.const_decls.insert(c.name.node.clone(), (c.clone(), decl.span));
         }
     }
     evaluate_constants(ctx);

@@ -1,5 +1,6 @@
-//! How far a readable book goes in lowering: counts of results and diagnostics, causes 9 and 10, and marks of what was
-//! met on the way. No records are written; this only tells whether the generator reaches what it is meant to reach.
+//! How far a readable book goes in lowering: counts of results, diagnostics and stored constants, causes 9 and 10, and
+//! marks of what was met on the way. No records are written. It is apart from the model: the tests ask it whether the
+//! generator reaches what it is meant to reach, and `compare` holds the model's counts and places to it.
 
 use std::collections::{BTreeSet, HashMap, HashSet};
 
@@ -9,16 +10,12 @@ use crate::layout::{Record, NONE};
 pub type Outcome = Result<(usize, usize, usize), (u8, u32)>;
 
 /// The outcome of lowering with slices of these lengths.
-pub fn lower(wildcards: bool, records: &[Record], lent: (usize, usize)) -> Outcome {
+pub fn counted(wildcards: bool, records: &[Record], lent: (usize, usize)) -> Outcome {
     marked(wildcards, records, lent).0
 }
 
 /// The outcome, and marks of what was met.
-pub fn marked(
-    wildcards: bool,
-    records: &[Record],
-    lent: (usize, usize),
-) -> (Outcome, BTreeSet<&'static str>) {
+pub fn marked(wildcards: bool, records: &[Record], lent: (usize, usize)) -> (Outcome, BTreeSet<&'static str>) {
     let mut state = State::new(wildcards, records, lent);
     let outcome = state.lower();
     (outcome, state.marks)
@@ -34,6 +31,8 @@ struct Tree {
 #[derive(Clone, Copy, PartialEq)]
 enum Is {
     Number,
+    /// The number of the generic alias of that name.
+    Generic(u16),
     Poison,
     Other,
 }
@@ -45,6 +44,7 @@ struct Within {
     argument: u16,
 }
 
+#[derive(Default)]
 struct State<'a> {
     records: &'a [Record],
     wildcards: bool,
@@ -73,46 +73,35 @@ type Done<T> = Result<T, (u8, u32)>;
 
 impl<'a> State<'a> {
     fn new(wildcards: bool, records: &'a [Record], limits: (usize, usize)) -> State<'a> {
-        let mut state = State {
-            records,
-            wildcards,
-            limits: ((limits.0 / 24).min(2_048), (limits.1 / 24).min(256)),
-            results: 0,
-            diagnostics: 0,
-            place: 0,
-            declared: HashSet::new(),
-            ambiguous: HashSet::new(),
-            generics: HashMap::new(),
-            numbered: HashSet::new(),
-            pairs: HashSet::new(),
-            plain_names: HashSet::new(),
-            plains: HashMap::new(),
-            stubs: HashSet::new(),
-            arguments: 0,
-            marks: BTreeSet::new(),
-        };
-        for (number, r) in records.iter().enumerate() {
-            match r.kind {
-                20..=22 => {
-                    state.declared.insert(r.a);
-                    state.numbered.insert(r.a);
-                }
-                23 => {
-                    let params = params(records, number);
-                    if params.is_empty() {
-                        state.plain_names.insert(r.a);
-                    } else {
-                        state.generics.insert(r.a, (r.b, params));
-                        state.numbered.insert(r.a);
-                    }
-                }
-                25 => {
-                    state.ambiguous.insert(r.a);
-                }
-                _ => {}
-            }
-        }
+        let limits = ((limits.0 / 24).min(2_048), (limits.1 / 24).min(256));
+        let mut state = State { records, wildcards, limits, ..State::default() };
+        (0..records.len()).for_each(|number| state.declare(number));
         state
+    }
+
+    /// Takes in the names that a record declares.
+    fn declare(&mut self, number: usize) {
+        let r = self.records[number];
+        match r.kind {
+            20..=22 => {
+                self.declared.insert(r.a);
+                self.numbered.insert(r.a);
+            }
+            23 => self.declare_alias(r, params(self.records, number)),
+            25 => {
+                self.ambiguous.insert(r.a);
+            }
+            _ => {}
+        }
+    }
+
+    fn declare_alias(&mut self, r: Record, params: Vec<u16>) {
+        if params.is_empty() {
+            self.plain_names.insert(r.a);
+        } else {
+            self.generics.insert(r.a, (r.b, params));
+            self.numbered.insert(r.a);
+        }
     }
 
     fn lower(&mut self) -> Outcome {
@@ -165,8 +154,9 @@ impl<'a> State<'a> {
             (false, true, _) if self.generics.contains_key(&name) => "namespace generic",
             (false, true, _) => "namespace declared",
             (true, true, _) => "head declared or generic",
-            (false, _, Some(Is::Number)) => "namespace alias",
+            (false, _, Some(Is::Number | Is::Generic(_))) => "namespace alias",
             (true, _, Some(Is::Number)) => "head alias",
+            (true, _, Some(Is::Generic(_))) => "head alias of a generic",
             (false, _, Some(Is::Poison)) => "namespace poison alias",
             (true, _, Some(Is::Poison)) => "head poison alias",
             (false, _, Some(Is::Other)) => "namespace alias without number",
@@ -178,6 +168,17 @@ impl<'a> State<'a> {
         self.numbered.contains(&name) || plain.is_some_and(|is| is != Is::Other)
     }
 
+    /// The generic alias whose number a head has, by its own name or as a plain alias to it.
+    fn generic_of(&self, head: u16) -> Option<u16> {
+        if self.numbered.contains(&head) {
+            return self.generics.contains_key(&head).then_some(head);
+        }
+        match self.plains.get(&head)?.is {
+            Is::Generic(name) => Some(name),
+            _ => None,
+        }
+    }
+
     /// Resolves a type at that depth, in a target where given.
     fn resolve(&mut self, at: u16, depth: usize, within: Option<Within>) -> Done<Tree> {
         if depth > 64 {
@@ -187,96 +188,81 @@ impl<'a> State<'a> {
             self.mark("depth 64");
         }
         let r = self.records[usize::from(at)];
-        let params = within
-            .map(|within| self.generics[&within.alias].1.clone())
-            .unwrap_or_default();
         match r.kind {
-            4 => {
-                if let (Some(within), true) = (within, params.first() == Some(&r.a)) {
-                    self.mark("parameter replaced");
-                    if params[1..].contains(&r.a) {
-                        self.mark("parameter twice");
-                    }
-                    self.arguments += 1;
-                    let tree = self.resolve(within.argument, depth + 1, None)?;
-                    self.arguments -= 1;
-                    return Ok(tree);
-                }
-                if params.contains(&r.a) {
-                    self.mark("later parameter");
-                }
-                self.named(r.a)
-            }
-            5 => {
-                if params.contains(&r.a) {
-                    self.mark("parameter as namespace");
-                }
-                if self.pairs.contains(&(r.a, r.b)) {
-                    self.mark("pair again");
-                    return self.leaf(Is::Number);
-                }
-                if !self.has_number(r.a, false) {
-                    return self.poison("message 2");
-                }
-                self.pairs.insert((r.a, r.b));
-                self.leaf(Is::Number)
-            }
-            6 => {
-                if params.contains(&r.a) {
-                    self.mark("parameter as head");
-                }
-                let inside = within.is_some();
-                if !self.has_number(r.a, true) {
-                    let outside = if self.arguments > 0 {
-                        "message 4 in an argument"
-                    } else {
-                        "message 4"
-                    };
-                    return self.poison(if inside {
-                        "message 1 for a head"
-                    } else {
-                        outside
-                    });
-                }
-                let Some((target, _)) = self.generics.get(&r.a) else {
-                    return self.poison(if inside {
-                        "message 3 in a target"
-                    } else {
-                        "message 3"
-                    });
-                };
-                let target = *target;
-                if inside {
-                    self.mark("generic in a target");
-                }
-                self.resolve(
-                    target,
-                    depth + 1,
-                    Some(Within {
-                        alias: r.a,
-                        argument: r.b,
-                    }),
-                )
-            }
+            4 => self.named_or_parameter(r, depth, within),
+            5 => self.qualified(r, within),
+            6 => self.generic(r, depth, within),
             7 => {
                 let child = self.resolve(r.a, depth + 1, within)?;
                 self.write(1)?;
-                Ok(Tree {
-                    count: child.count + 1,
-                    is: Is::Other,
-                })
+                Ok(Tree { count: child.count + 1, is: Is::Other })
             }
             8 => {
                 let left = self.resolve(r.a, depth + 1, within)?;
                 let right = self.resolve(r.b, depth + 1, within)?;
                 self.write(1)?;
-                Ok(Tree {
-                    count: left.count + right.count + 1,
-                    is: Is::Other,
-                })
+                Ok(Tree { count: left.count + right.count + 1, is: Is::Other })
             }
             _ => self.leaf(Is::Other),
         }
+    }
+
+    /// The parameters of the alias whose target this is.
+    fn params_within(&self, within: Option<Within>) -> &[u16] {
+        within.map_or(&[], |within| &self.generics[&within.alias].1)
+    }
+
+    fn named_or_parameter(&mut self, r: Record, depth: usize, within: Option<Within>) -> Done<Tree> {
+        let params = self.params_within(within);
+        let (first, times) = (params.first() == Some(&r.a), params.iter().filter(|&&name| name == r.a).count());
+        if let (Some(within), true) = (within, first) {
+            self.mark("parameter replaced");
+            if times > 1 {
+                self.mark("parameter twice");
+            }
+            self.arguments += 1;
+            let tree = self.resolve(within.argument, depth + 1, None)?;
+            self.arguments -= 1;
+            return Ok(tree);
+        }
+        if times > 0 {
+            self.mark("later parameter");
+        }
+        self.named(r.a)
+    }
+
+    fn qualified(&mut self, r: Record, within: Option<Within>) -> Done<Tree> {
+        if self.params_within(within).contains(&r.a) {
+            self.mark("parameter as namespace");
+        }
+        if self.pairs.contains(&(r.a, r.b)) {
+            self.mark("pair again");
+            return self.leaf(Is::Number);
+        }
+        if !self.has_number(r.a, false) {
+            return self.poison("message 2");
+        }
+        self.pairs.insert((r.a, r.b));
+        self.leaf(Is::Number)
+    }
+
+    fn generic(&mut self, r: Record, depth: usize, within: Option<Within>) -> Done<Tree> {
+        if self.params_within(within).contains(&r.a) {
+            self.mark("parameter as head");
+        }
+        let inside = within.is_some();
+        if !self.has_number(r.a, true) {
+            let outside = if self.arguments > 0 { "message 4 in an argument" } else { "message 4" };
+            return self.poison(if inside { "message 1 for a head" } else { outside });
+        }
+        let Some(alias) = self.generic_of(r.a) else {
+            return self.poison(if inside { "message 3 in a target" } else { "message 3" });
+        };
+        let target = self.generics[&alias].0;
+        if inside {
+            self.mark("generic in a target");
+        }
+        self.resolve(target, depth + 1, Some(Within { alias, argument: r.b }))
     }
 
     fn named(&mut self, name: u16) -> Done<Tree> {
@@ -284,7 +270,7 @@ impl<'a> State<'a> {
         if let Some(&tree) = self.plains.get(&name) {
             self.mark(match tree.is {
                 _ if ambiguous => "alias, ambiguous",
-                Is::Number => "alias of a number",
+                Is::Number | Is::Generic(_) => "alias of a number",
                 Is::Poison => "alias of poison",
                 Is::Other if tree.count > 1 => "alias of a tree",
                 Is::Other => "alias of a leaf",
@@ -296,37 +282,21 @@ impl<'a> State<'a> {
             self.mark("alias not yet there");
         }
         if self.declared.contains(&name) {
-            self.mark(if ambiguous {
-                "declared, ambiguous"
-            } else {
-                "declared"
-            });
+            self.mark(if ambiguous { "declared, ambiguous" } else { "declared" });
             return self.leaf(Is::Number);
         }
         if ambiguous {
             let generic = self.generics.contains_key(&name);
-            return self.poison(if generic {
-                "message 0 for a generic"
-            } else {
-                "message 0"
-            });
+            return self.poison(if generic { "message 0 for a generic" } else { "message 0" });
         }
         if self.numbered.contains(&name) {
-            self.mark(if self.stubs.contains(&name) {
-                "stub again"
-            } else {
-                "bare generic"
-            });
-            return self.leaf(Is::Number);
+            self.mark(if self.stubs.contains(&name) { "stub again" } else { "bare generic" });
+            return self.leaf(if self.stubs.contains(&name) { Is::Number } else { Is::Generic(name) });
         }
         if !self.wildcards {
             return self.poison("message 1");
         }
-        self.mark(if self.plain_names.contains(&name) {
-            "stub for a later alias"
-        } else {
-            "stub"
-        });
+        self.mark(if self.plain_names.contains(&name) { "stub for a later alias" } else { "stub" });
         self.numbered.insert(name);
         self.stubs.insert(name);
         self.leaf(Is::Number)
@@ -378,9 +348,7 @@ impl<'a> State<'a> {
     }
 
     fn constants(&mut self) -> Done<usize> {
-        let all: Vec<usize> = (0..self.records.len())
-            .filter(|&at| self.records[at].kind == 24)
-            .collect();
+        let all: Vec<usize> = (0..self.records.len()).filter(|&at| self.records[at].kind == 24).collect();
         let names: HashSet<u16> = all.iter().map(|&at| self.records[at].a).collect();
         let mut done: HashSet<u16> = HashSet::new();
         let mut stored: HashMap<u16, i64> = HashMap::new();
@@ -431,31 +399,35 @@ impl<'a> State<'a> {
 
     fn bodies(&mut self) -> Done<()> {
         for number in 0..self.records.len() {
-            let r = self.records[number];
             self.place = number as u32;
-            match r.kind {
-                20 | 21 | 33 => self.write(1)?,
-                22 => {
-                    self.resolve(r.b, 1, None)?;
-                    self.write(1)?;
-                }
-                31 => {
-                    self.resolve(r.b, 1, None)?;
-                    if r.c != NONE {
-                        self.constraint(r.c)?;
-                    }
-                    self.write(2)?;
-                }
-                32 => {
-                    if r.c != NONE {
-                        self.resolve(r.c, 1, None)?;
-                    }
-                    self.write(1)?;
-                }
-                _ => {}
-            }
+            self.body(self.records[number])?;
         }
         Ok(())
+    }
+
+    /// What a record of a body, or a newtype, comes to.
+    fn body(&mut self, r: Record) -> Done<()> {
+        match r.kind {
+            20 | 21 | 33 => self.write(1),
+            22 => {
+                self.resolve(r.b, 1, None)?;
+                self.write(1)
+            }
+            31 => {
+                self.resolve(r.b, 1, None)?;
+                if r.c != NONE {
+                    self.constraint(r.c)?;
+                }
+                self.write(2)
+            }
+            32 => {
+                if r.c != NONE {
+                    self.resolve(r.c, 1, None)?;
+                }
+                self.write(1)
+            }
+            _ => Ok(()),
+        }
     }
 }
 

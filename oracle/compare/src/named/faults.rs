@@ -1,0 +1,280 @@
+//! Books with one fault: each field just outside its values, children of the wrong group, items that do not follow.
+
+use super::draft::NONE;
+use super::{refused, Books, Draft};
+use crate::rows::{self, Edge};
+use books::Record;
+
+/// A book that is accepted and has a record of this kind and sub, and that record's number.
+fn sound(kind: u8, sub: u8) -> (Draft, u16) {
+    let mut d = Draft::default();
+    let at = match kind {
+        1..=9 => {
+            let at = sound_type(&mut d, kind, sub);
+            d.newtype(3, at);
+            at
+        }
+        10..=12 => {
+            let at = sound_expression(&mut d, kind, sub);
+            d.constant(3, at);
+            at
+        }
+        13..=16 => sound_constraint(&mut d, kind, sub),
+        20 | 21 | 25 => d.put(kind, 0, [3, 0, 0], 0),
+        22 | 23 => {
+            let t = d.u8();
+            d.put(kind, 0, [3, t, 0], 0)
+        }
+        24 => {
+            let e = d.int(1);
+            d.constant(3, e)
+        }
+        _ => sound_item(&mut d, kind, sub),
+    };
+    (d, at)
+}
+
+fn sound_type(d: &mut Draft, kind: u8, sub: u8) -> u16 {
+    match kind {
+        2 => d.put(2, sub, [7, 0, 0], 0),
+        4 => d.named(3),
+        5 => d.qualified(3, 4),
+        6 => d.generic_u8(3),
+        7 => {
+            let t = d.u8();
+            d.one(sub, t)
+        }
+        8 => {
+            let (l, r) = (d.u8(), d.u8());
+            d.put(8, sub, [l, r, 0], 0)
+        }
+        9 => d.put(9, 0, [NONE, 0, 0], 0),
+        _ => d.put(kind, sub, [0; 3], 0),
+    }
+}
+
+fn sound_expression(d: &mut Draft, kind: u8, sub: u8) -> u16 {
+    match kind {
+        10 => d.literal(sub, 1),
+        11 => d.reference(9),
+        _ => {
+            let (l, r) = (d.int(1), d.int(2));
+            d.operation(sub, l, r)
+        }
+    }
+}
+
+/// In a field of a message: a 13 over comparisons, a 14 or a 15 over operands, or a 16 under a 14.
+fn sound_constraint(d: &mut Draft, kind: u8, sub: u8) -> u16 {
+    d.message(3);
+    let at = match kind {
+        13 => {
+            let l = comparison(d, 0);
+            let r = if sub < 2 { comparison(d, 0) } else { 0 };
+            d.put(13, sub, [l, r, 0], 0)
+        }
+        14 => comparison(d, sub),
+        15 => {
+            let (l, r) = (d.operand(5), d.operand(5));
+            d.put(15, sub, [l, r, 0], 0)
+        }
+        _ => d.put(16, sub, [if sub == 2 || sub == 5 { 6 } else { 0 }, 0, 0], 0),
+    };
+    let root = if kind == 16 { d.put(14, 0, [at, 0, 0], 0) } else { at };
+    let t = d.u8();
+    d.field(4, t, root);
+    at
+}
+
+/// A 14 over an operand.
+fn comparison(d: &mut Draft, sub: u8) -> u16 {
+    let o = d.operand(5);
+    d.put(14, sub, [o, 0, 0], 0)
+}
+
+fn sound_item(d: &mut Draft, kind: u8, sub: u8) -> u16 {
+    let t = d.u8();
+    match kind {
+        30 => d.alias(3, t, &[4]) + 1,
+        33 => {
+            d.union(3);
+            d.variant(4, 5)
+        }
+        32 | 36 => sound_tombstone(d, kind, sub),
+        _ => sound_field(d, kind, sub, t),
+    }
+}
+
+/// A 32 in a message, or with sub 1 in a union, or a 36 behind a 32 in a message.
+fn sound_tombstone(d: &mut Draft, kind: u8, sub: u8) -> u16 {
+    let of_union = kind == 32 && sub == 1;
+    d.put(if of_union { 21 } else { 20 }, 0, [3, 0, 0], 0);
+    let tombstone = d.tombstone(of_union as u8, NONE, 5);
+    match kind {
+        36 => d.put(36, sub, [6, 0, 0], 0),
+        _ => tombstone,
+    }
+}
+
+/// A 31, a 34 behind it, or a 35 behind a limit annotation.
+fn sound_field(d: &mut Draft, kind: u8, sub: u8, t: u16) -> u16 {
+    d.message(3);
+    let field = d.field(4, t, NONE);
+    match kind {
+        34 => d.annotation(sub),
+        35 => {
+            d.annotation(3);
+            d.argument(sub, NONE, 0)
+        }
+        _ => field,
+    }
+}
+
+/// Each field of each row just outside its values, and kinds that there are none of.
+pub fn edges(to: &mut Books) {
+    for (kind, sub, edge, cause) in rows::edges() {
+        let (mut d, at) = sound(kind, sub);
+        assert_eq!((d.book.records[at as usize].kind, d.book.records[at as usize].sub), (kind, sub));
+        assert_eq!(rows::first(&d.book.bytes()), None);
+        let what = set(&mut d.book.records[at as usize], edge);
+        to.add(format!("{cause}-kind-{kind}-{what}"), &d, refused(cause, at));
+    }
+    for kind in [0, 17, 18, 19, 26, 27, 28, 29, 37, 40, 255] {
+        to.refuse(format!("4-kind-{kind}"), 4, |d| d.put(kind, 0, [0; 3], 0));
+    }
+}
+
+/// Sets a field just outside its values, and gives the end of the book's name.
+fn set(r: &mut Record, edge: Edge) -> String {
+    let old = r.sub;
+    match edge {
+        Edge::Sub(sub) => {
+            r.sub = sub;
+            format!("sub-{sub}")
+        }
+        Edge::Abc(k, value) => {
+            *[&mut r.a, &mut r.b, &mut r.c][k] = value;
+            format!("{old}-{}-{value}", ["a", "b", "c"][k])
+        }
+        Edge::V(value) => {
+            r.v = value;
+            format!("{old}-v")
+        }
+    }
+}
+
+/// For each group of children its name, a kind of it, and a kind that has such a child.
+const GROUPS: [(&str, u8, u8); 4] =
+    [("type", 1, 7), ("expression", 10, 12), ("constraint", 14, 13), ("operand", 16, 14)];
+
+/// A child of each wrong group, one that is used already, and one that is not earlier.
+pub fn groups(to: &mut Books) {
+    for (wanted, _, parent) in GROUPS {
+        for (given, kind, _) in GROUPS.iter().filter(|g| g.0 != wanted) {
+            let name = format!("5-{}-for-{}", &given[..4], &wanted[..4]);
+            to.refuse(name, 5, |d| wrong_group(d, *kind, parent));
+        }
+    }
+    used_before(to);
+    not_earlier(to);
+}
+
+/// A record of kind `parent` over one of kind `kind`.
+fn wrong_group(d: &mut Draft, kind: u8, parent: u8) -> u16 {
+    let o = if kind == 14 { d.operand(1) } else { 0 };
+    let child = d.put(kind, 0, [o, 0, 0], 0);
+    let second = if parent == 7 || parent == 14 { 0 } else { child };
+    d.put(parent, 0, [child, second, 0], 0)
+}
+
+/// A child that is used already, also by the same record.
+fn used_before(to: &mut Books) {
+    to.refuse("5-child-named-twice", 5, |d| {
+        let t = d.u8();
+        d.map(t, t)
+    });
+    to.refuse("5-operand-named-twice", 5, |d| {
+        let e = d.int(1);
+        d.operation(0, e, e)
+    });
+    to.refuse("5-child-used-before", 5, |d| {
+        let t = d.u8();
+        d.newtype(1, t);
+        d.newtype(2, t)
+    });
+    to.refuse("5-used-by-unused", 5, |d| {
+        let t = d.u8();
+        d.one(0, t);
+        d.one(0, t)
+    });
+}
+
+/// A child that is the record itself, one behind it, and one that is a declaration.
+fn not_earlier(to: &mut Books) {
+    to.refuse("5-child-is-itself", 5, |d| d.one(0, 0));
+    to.refuse("5-child-later", 5, |d| {
+        let at = d.one(0, 1);
+        d.u8();
+        at
+    });
+    to.refuse("5-declaration-as-child", 5, |d| {
+        d.message(1);
+        d.newtype(2, 0)
+    });
+}
+
+/// Records that another may stand behind: a name, kind and sub of each. `sound` puts 32 sub 1 and 33 in a union, and
+/// other items of a body in a message.
+const ENDS: [(&str, u8, u8); 15] = [
+    ("nothing", 0, 0),
+    ("20", 20, 0),
+    ("21", 21, 0),
+    ("22", 22, 0),
+    ("23", 23, 0),
+    ("24", 24, 0),
+    ("25", 25, 0),
+    ("30", 30, 0),
+    ("31", 31, 0),
+    ("32-0", 32, 0),
+    ("32-1", 32, 1),
+    ("33", 33, 0),
+    ("34", 34, 0),
+    ("35", 35, 0),
+    ("36", 36, 0),
+];
+
+/// Kind and sub of each item, and the names of the ends that it may stand behind.
+const ITEMS: [(u8, u8, &[&str]); 8] = [
+    (30, 0, &["23", "30"]),
+    (31, 0, &["20", "31", "32-0", "33", "34", "35", "36"]),
+    (32, 0, &["20", "31", "32-0", "33", "34", "35", "36"]),
+    (32, 1, &["21", "32-1", "33"]),
+    (33, 0, &["21", "32-1", "33"]),
+    (34, 0, &["20", "31", "34", "35"]),
+    (35, 0, &["34", "35"]),
+    (36, 0, &["32-0", "32-1", "36"]),
+];
+
+/// Each item behind each record that it may not stand behind, or in a declaration that has no such item.
+pub fn follow_rule(to: &mut Books) {
+    for (name, kind, sub) in ENDS {
+        let end = if kind == 0 { Draft::default() } else { sound(kind, sub).0 };
+        for (kind, sub, _) in ITEMS.iter().filter(|i| !i.2.contains(&name)) {
+            let mut d = end.clone();
+            let at = item(&mut d, *kind, *sub);
+            to.add(format!("6-{kind}-{sub}-behind-{name}"), &d, refused(6, at));
+        }
+    }
+}
+
+/// An item whose fields are in order.
+fn item(d: &mut Draft, kind: u8, sub: u8) -> u16 {
+    let t = d.u8();
+    let (abc, v) = match kind {
+        31 => ([9, t, NONE], 1),
+        32 => ([0, 0, NONE], 1),
+        34 => ([0; 3], 0),
+        _ => ([9, 0, 0], 0),
+    };
+    d.put(kind, sub, abc, v)
+}
