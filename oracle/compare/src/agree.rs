@@ -46,8 +46,8 @@ pub fn agree(book: &Book, results: &[Record], diagnostics: &[Record], trace: &Tr
     messages(&results::diagnostics(diagnostics)?, trace, &rust, one)
 }
 
-/// Bodies and their items stand in book order, each with the span of its own record. The Rust keeps fields and tombstones
-/// in lists of their own, so it cannot tell this.
+/// Bodies and their items stand in book order, each with the span of its own record. The Rust keeps fields and
+/// tombstones in lists of their own, so it cannot tell this.
 fn in_book_order(book: &Book, results: &[Record]) -> Found {
     let given: Vec<_> =
         results.iter().filter(|r| matches!(r.kind, 42..=45 | 47 | 48)).map(|r| (r.kind, r.offset, r.len)).collect();

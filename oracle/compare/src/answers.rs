@@ -182,10 +182,10 @@ fn shows(book: &Book) -> Vec<(&'static str, u32, u32)> {
                 counts.add("encoded", w[0].kind as u32, (w[2].sub as u32) << 2 | (w[2].a as u32) << 1 | w[2].b as u32);
             }
             let told = results::records(&full.diagnostics, diagnostics);
-            told.iter().for_each(|r| counts.add("message", r.sub as u32, 0));
+            told.iter().for_each(|r| counts.add("message", 0, r.sub as u32));
         }
         Reply::Refused { number, place } => {
-            counts.add("cause", number as u32, book.records[place as usize].kind as u32);
+            counts.add("cause at", number as u32, book.records[place as usize].kind as u32);
         }
     }
     counts.seen.into_keys().collect()

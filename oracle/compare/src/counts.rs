@@ -22,9 +22,9 @@ impl Counts {
 
     pub fn book(&mut self, book: &Book) {
         self.records("kind", &book.records);
-        self.add(if book.wildcards { "wildcards" } else { "no wildcards" }, 0, 0);
+        self.add("wildcards", 0, book.wildcards as u32);
         let blocks = book.records.len().div_ceil(21) as u32;
-        self.add("blocks", if blocks == 64 { 64 } else { blocks.min(16) }, 0);
+        self.add("blocks, from 16 on by 16", 0, if blocks < 16 { blocks } else { blocks / 16 * 16 });
     }
 
     pub fn merge(&mut self, other: Counts) {
@@ -33,14 +33,15 @@ impl Counts {
         }
     }
 
-    /// A line for each word and first number, with the counts by second number.
+    /// A line for each word, and for each first number where there are several, with the counts by second number.
     pub fn print(&self) {
         let mut lines: BTreeMap<(&str, u32), Vec<String>> = BTreeMap::new();
         for ((what, a, b), n) in &self.seen {
             lines.entry((what, *a)).or_default().push(format!("{b}: {n}"));
         }
         for ((what, a), all) in lines {
-            println!("{what} {a}   {}", all.join("  "));
+            let several = if a == 0 { String::new() } else { format!(" {a}") };
+            println!("{what}{several}   {}", all.join("  "));
         }
     }
 
@@ -59,8 +60,8 @@ impl Counts {
         for (kind, last) in RESULTS {
             (0..=last).for_each(|sub| look("result", kind, sub));
         }
-        (0..=5).for_each(|m| look("message", m, 0));
-        (1..=10).for_each(|c| look("cause", c, 0));
+        (0..=5).for_each(|m| look("message", 0, m));
+        (1..=10).for_each(|c| look("cause, 0 accepted", 0, c));
         rare
     }
 }

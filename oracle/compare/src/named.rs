@@ -84,5 +84,7 @@ pub fn all() -> Vec<Named> {
     faults::edges(&mut to);
     faults::groups(&mut to);
     faults::follow_rule(&mut to);
+    faults::names_again(&mut to);
+    faults::blocks(&mut to);
     to.all
 }

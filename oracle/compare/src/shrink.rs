@@ -1,7 +1,8 @@
 //! Makes a book on which something disagrees smaller, and prints it.
 
 use crate::judge::judge;
-use crate::{rows, Disagreement};
+use crate::rows;
+use crate::run::Disagreement;
 use books::{Book, Record};
 
 /// Drops records as long as something still disagrees. What is known by construction is not known of a smaller book, so

@@ -82,7 +82,7 @@ fn copy(from: &Path, to: &Path) -> std::io::Result<()> {
 /// Whether a command of the copy ends well; it is stopped after two minutes, which is a difference too.
 fn ends_well(folder: &Path, program: &str, words: &[&str]) -> bool {
     let mut command = Command::new("timeout");
-    command.arg("120").arg(program).args(words).current_dir(folder);
+    command.arg("120").arg(program).args(words).current_dir(folder).env("CARGO_INCREMENTAL", "1");
     command.stdout(Stdio::null()).stderr(Stdio::null()).status().is_ok_and(|s| s.success())
 }
 

@@ -1,9 +1,9 @@
 //! Books with one fault: each field just outside its values, children of the wrong group, items that do not follow.
 
 use super::draft::NONE;
-use super::{refused, Books, Draft};
+use super::{accepted, refused, Books, Draft, FULL};
 use crate::rows::{self, Edge};
-use books::Record;
+use books::{seal, Record};
 
 /// A book that is accepted and has a record of this kind and sub, and that record's number.
 fn sound(kind: u8, sub: u8) -> (Draft, u16) {
@@ -20,15 +20,7 @@ fn sound(kind: u8, sub: u8) -> (Draft, u16) {
             at
         }
         13..=16 => sound_constraint(&mut d, kind, sub),
-        20 | 21 | 25 => d.put(kind, 0, [3, 0, 0], 0),
-        22 | 23 => {
-            let t = d.u8();
-            d.put(kind, 0, [3, t, 0], 0)
-        }
-        24 => {
-            let e = d.int(1);
-            d.constant(3, e)
-        }
+        20..=25 => declare(&mut d, kind),
         _ => sound_item(&mut d, kind, sub),
     };
     (d, at)
@@ -277,4 +269,80 @@ fn item(d: &mut Draft, kind: u8, sub: u8) -> u16 {
         _ => ([9, 0, 0], 0),
     };
     d.put(kind, sub, abc, v)
+}
+
+/// "20-23 share one set, 24 and 25 have one each": each declaration of a name behind each other one.
+pub fn names_again(to: &mut Books) {
+    for first in 20..=25 {
+        for second in 20..=25 {
+            let mut d = Draft::default();
+            declare(&mut d, first);
+            let at = declare(&mut d, second);
+            let again = first == second || (first < 24 && second < 24);
+            let results = |kind: u8| [1, 1, 2, 2, 2, 0][kind as usize - 20];
+            let constants = (first == 24) as u32 + (second == 24) as u32;
+            let apart = accepted(results(first) + results(second), 0, constants);
+            to.add(format!("7-{second}-behind-{first}"), &d, if again { refused(7, at) } else { apart });
+        }
+    }
+}
+
+/// A declaration of the name 3.
+fn declare(d: &mut Draft, kind: u8) -> u16 {
+    match kind {
+        22 | 23 => {
+            let t = d.u8();
+            d.put(kind, 0, [3, t, 0], 0)
+        }
+        24 => {
+            let e = d.int(1);
+            d.constant(3, e)
+        }
+        _ => d.put(kind, 0, [3, 0, 0], 0),
+    }
+}
+
+/// A byte of a block of a book of two that is not as it should be: name, block, byte, value.
+const BLOCK_BYTES: [(&str, usize, usize, u8); 15] = [
+    ("3-number-1-in-block-0", 0, 0, 1),
+    ("3-number-256-in-block-0", 0, 1, 1),
+    ("3-number-0-in-block-1", 1, 0, 0),
+    ("3-number-257-in-block-1", 1, 1, 1),
+    ("3-count-20-in-block-0", 0, 2, 20),
+    ("3-count-22-in-block-0", 0, 2, 22),
+    ("3-count-0-in-block-1", 1, 2, 0),
+    ("3-count-22-in-block-1", 1, 2, 22),
+    ("3-byte-3-of-block-0", 0, 3, 2),
+    ("3-byte-3-of-block-1", 1, 3, 1),
+    ("3-unused-place", 1, 507, 1),
+    ("3-byte-508-of-block-0", 0, 508, 1),
+    ("3-byte-509-of-block-0", 0, 509, 255),
+    ("3-byte-508-of-block-1", 1, 508, 128),
+    ("3-byte-509-of-block-1", 1, 509, 1),
+];
+
+/// Causes 2 and 3: each byte that a block rule speaks of, and "2 before 3", "blocks upward", before any record.
+pub fn blocks(to: &mut Books) {
+    let mut d = Draft::default();
+    (0..22).for_each(|_| {
+        d.u8();
+    });
+    let sound = d.book.bytes();
+    for (name, block, at, value) in BLOCK_BYTES {
+        let mut bytes = sound.clone();
+        bytes[512 * block + at] = value;
+        let unsealed = bytes.clone();
+        seal(&mut bytes, block);
+        to.bytes(name, bytes, FULL, refused(3, block as u16));
+        to.bytes(name.replacen('3', "2", 1), unsealed, FULL, refused(2, block as u16));
+    }
+    let mut bytes = sound;
+    bytes[3] = 2;
+    seal(&mut bytes, 0);
+    bytes[512] = 9;
+    to.bytes("3-before-a-later-2", bytes.clone(), FULL, refused(3, 0));
+    bytes[3] = 0;
+    bytes[4] = 99;
+    seal(&mut bytes, 0);
+    to.bytes("2-before-an-earlier-4", bytes, FULL, refused(2, 1));
 }
