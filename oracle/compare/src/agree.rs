@@ -17,14 +17,15 @@ fn same<T: PartialEq + std::fmt::Debug>(what: &str, ours: &T, theirs: &T) -> Fou
 
 /// Document 01: "Wildcard books where one constant's type stubs a name that another's uses as namespace or generic head
 /// aren't compared".
-pub fn compared(trace: &Trace) -> bool {
-    !trace.asked.iter().any(|(by, name)| trace.bare.iter().any(|(other, n)| n == name && other != by))
+pub fn compared(wildcards: bool, trace: &Trace) -> bool {
+    let stubbed = |(by, name): &(u32, u16)| trace.bare.iter().any(|(other, n)| n == name && other != by);
+    !(wildcards && trace.asked.iter().any(stubbed))
 }
 
 /// Whether the type of an unstored constant is the same if it is asked for again: no name is both stubbed by the
 /// constants and asked for as namespace or head among them.
-fn settled(trace: &Trace) -> bool {
-    !trace.asked.iter().any(|(_, name)| trace.bare.iter().any(|(_, n)| n == name))
+fn settled(wildcards: bool, trace: &Trace) -> bool {
+    !(wildcards && trace.asked.iter().any(|(_, name)| trace.bare.iter().any(|(_, n)| n == name)))
 }
 
 /// Holds the result and diagnostic records of an accepted book to the Rust's lowering of it.
@@ -35,7 +36,7 @@ pub fn agree(book: &Book, results: &[Record], diagnostics: &[Record], trace: &Tr
     numbers(book, &rust)?;
     reached(book, &ours, &rust)?;
     let one = ours.reached.len() == 1;
-    if !settled(trace) {
+    if !settled(book.wildcards, trace) {
         ours.reached.retain(|c| c.stored);
         rust.unstored.clear();
     }

@@ -61,7 +61,7 @@ fn books_that_are_not_compared() {
     assert_eq!(seen(&qualified, messages), HashSet::from([vec![], vec![2]]));
     assert_eq!(seen(&head, messages), HashSet::from([vec![3], vec![4]]));
     for d in [qualified, head] {
-        assert!(!agree::compared(&full(&d.book.bytes()).unwrap().trace));
+        assert!(!agree::compared(true, &full(&d.book.bytes()).unwrap().trace));
     }
 }
 

@@ -99,7 +99,7 @@ fn counted(book: &[u8], run: &Run) -> Result<(), String> {
 
 /// What the Rust makes of a book, where there is something to compare.
 fn lowered(book: &[u8], full: &Run) -> Result<Option<Lowered>, String> {
-    if !matches!(full.reply, Reply::Accepted { .. }) || !agree::compared(&full.trace) {
+    if !matches!(full.reply, Reply::Accepted { .. }) || !agree::compared(book[3] == 1, &full.trace) {
         return Ok(None);
     }
     let given = catch_unwind(AssertUnwindSafe(|| vexil::lower_book(book)));
