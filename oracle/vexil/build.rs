@@ -14,7 +14,7 @@ const FILES: [(&str, u64); 6] = [
     ("span.rs", 0xea37_b8a4_18fc_68eb),
 ];
 
-const HARNESS: &str = "\n#[path = \"../src/harness/mod.rs\"] pub mod harness;\n";
+const HARNESS: &str = "#[path = \"../src/harness/mod.rs\"] pub mod harness;\n";
 
 fn main() {
     println!("cargo:rerun-if-env-changed=VEXIL_SRC");
