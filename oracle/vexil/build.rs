@@ -41,11 +41,10 @@ fn main() {
 /// Where the source is: `$VEXIL_SRC`, else the first of `docs/src` and `../shared/docs/src`, seen from the root of the
 /// repository.
 fn source(root: &Path) -> PathBuf {
-    if let Some(given) = env::var_os("VEXIL_SRC") {
-        return PathBuf::from(given);
-    }
-    let places = [root.join("docs/src"), root.join("../shared/docs/src")];
-    places.into_iter().find(|p| p.is_dir()).unwrap_or_else(|| {
+    let given = env::var_os("VEXIL_SRC").map(PathBuf::from);
+    let places = given.map_or(vec![root.join("docs/src"), root.join("../shared/docs/src")], |p| vec![p]);
+    let there = |p: &PathBuf| p.join("crates/vexil-lang/src/lower.rs").is_file();
+    places.into_iter().find(there).unwrap_or_else(|| {
         stop(
             "the source of the Vexil repository (commit 0e0a971135) is not here: set VEXIL_SRC to a folder that has \
              crates/vexil-lang/src/lower.rs, or put it at docs/src",

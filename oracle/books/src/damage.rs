@@ -8,8 +8,10 @@ mod order;
 mod records;
 mod scene;
 
+use crate::layout::{self, MOST_RECORDS, NONE};
 use crate::random::lengths;
 use crate::rng::Rng;
+use crate::shape::{field, shape, Field};
 use lowering::User;
 use order::Why;
 use scene::{spoil, Scene};
@@ -150,11 +152,31 @@ pub fn damaged(rng: &mut Rng) -> Damaged {
     Damaged { bytes: case.bytes, results, diagnostics, expected: case.expected, what }
 }
 
-/// The case of a broken record, in a third of all cases with broken ones behind it.
+/// The case of a broken record, in a third of all cases with broken ones behind it, in an eighth late in a book.
 fn recorded(rng: &mut Rng, cause: u8, make: fn(&mut Rng) -> Scene) -> Case {
-    let Scene { mut book, place } = make(rng);
+    let Scene { mut book, mut place } = make(rng);
     if rng.chance(3) {
         spoil(rng, &mut book.records, place);
     }
+    if rng.chance(8) && book.records.len() < MOST_RECORDS {
+        let more = rng.between(1, MOST_RECORDS - book.records.len());
+        push_back(&mut book.records, more);
+        place += more;
+    }
     Case::new(book.bytes(), Some((cause, place as u32)))
+}
+
+/// Puts so many types that nothing uses before all records; children move with them.
+fn push_back(records: &mut Vec<layout::Record>, more: usize) {
+    for r in records.iter_mut() {
+        let fields = shape(r.kind, r.sub).map_or([Field::Unused; 3], |s| s.fields);
+        for (at, what) in fields.into_iter().enumerate() {
+            let child = field(r, at);
+            if matches!(what, Field::Child(_) | Field::ChildOrNone(_)) && *child != NONE {
+                *child = child.saturating_add(more as u16).min(NONE - 1);
+            }
+        }
+    }
+    let leaf = layout::Record { kind: 1, ..layout::Record::default() };
+    records.splice(0..0, std::iter::repeat_n(leaf, more));
 }

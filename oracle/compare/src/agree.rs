@@ -22,29 +22,38 @@ pub fn compared(wildcards: bool, trace: &Trace) -> bool {
     !(wildcards && trace.asked.iter().any(stubbed))
 }
 
-/// Whether the type of an unstored constant is the same if it is asked for again: no name is both stubbed by the
-/// constants and asked for as namespace or head among them.
-fn settled(wildcards: bool, trace: &Trace) -> bool {
-    !(wildcards && trace.asked.iter().any(|(_, name)| trace.bare.iter().any(|(_, n)| n == name)))
+/// Holds the records of an accepted book to the Rust's lowering with all constants handed over together: constants and
+/// their diagnostics as collections, their stubs up to renumbering.
+pub fn agree(book: &Book, results: &[Record], diagnostics: &[Record], trace: &Trace, mut rust: Lowered) -> Found {
+    let ours = results::read(results)?;
+    renumber(&ours, &mut rust, trace.numbers[2]..trace.numbers[3])?;
+    parts(book, &ours, trace, &rust)?;
+    let told = results::diagnostics(diagnostics)?;
+    messages(&told, trace, &rust, ours.reached.len() == 1)
 }
 
-/// Holds the result and diagnostic records of an accepted book to the Rust's lowering of it.
-pub fn agree(book: &Book, results: &[Record], diagnostics: &[Record], trace: &Trace, mut rust: Lowered) -> Found {
-    let mut ours = results::read(results)?;
+/// Holds them to the Rust's lowering with constants handed over one at a time in document 01's order: everything
+/// exactly, types of constants without a value too.
+pub fn agree_in_order(book: &Book, results: &[Record], diagnostics: &[Record], trace: &Trace, rust: &Lowered) -> Found {
+    let ours = results::read(results)?;
     in_book_order(book, results)?;
+    parts(book, &ours, trace, rust)?;
+    let reached: Vec<_> = order(book).into_iter().map(|r| (r.a, (r.offset, r.len))).collect();
+    same("order and spans of constants", &ours.reached.iter().map(|c| (c.name, c.span)).collect(), &reached)?;
+    let mut unstored: Vec<_> =
+        ours.reached.iter().filter(|c| !c.stored).map(|c| (c.name, c.resolved.clone())).collect();
+    unstored.sort();
+    same("reached constants without a value", &unstored, &rust.unstored)?;
+    messages(&results::diagnostics(diagnostics)?, trace, rust, true)
+}
+
+/// All but diagnostics.
+fn parts(book: &Book, ours: &Results, trace: &Trace, rust: &Lowered) -> Found {
     same("registry length after each part", &trace.numbers, &rust.lengths)?;
-    numbers(book, &rust)?;
-    reached(book, &ours, &rust)?;
-    let one = ours.reached.len() == 1;
-    if !settled(book.wildcards, trace) {
-        ours.reached.retain(|c| c.stored);
-        rust.unstored.clear();
-    }
-    renumber(&ours, &mut rust, trace.numbers[2]..trace.numbers[3])?;
-    aliases(book, &ours, &rust)?;
-    constants(&ours, &rust)?;
-    same("bodies", &ours.bodies, &rust.bodies)?;
-    messages(&results::diagnostics(diagnostics)?, trace, &rust, one)
+    numbers(book, rust)?;
+    aliases(book, ours, rust)?;
+    constants(ours, rust)?;
+    same("bodies", &ours.bodies, &rust.bodies)
 }
 
 /// Bodies and their items stand in book order, each with the span of its own record. The Rust keeps fields and
@@ -86,36 +95,24 @@ fn aliases(book: &Book, ours: &Results, rust: &Lowered) -> Found {
     same("spans of plain aliases", &ours.aliases.iter().map(|a| a.span).collect(), &spans)
 }
 
-/// Which constants are reached, in the order that document 01 fixes, with the book's spans; those without a value are
-/// those of message 5.
-fn reached(book: &Book, ours: &Results, rust: &Lowered) -> Found {
-    let order: Vec<_> = order(book).into_iter().map(|r| (r.a, (r.offset, r.len))).collect();
-    same("order and spans of constants", &ours.reached.iter().map(|c| (c.name, c.span)).collect(), &order)?;
+/// Stored constants; those that are reached without a value are those of message 5.
+fn constants(ours: &Results, rust: &Lowered) -> Found {
+    let mut stored: Vec<Constant> = ours.reached.iter().filter(|c| c.stored).map(constant).collect();
+    stored.sort();
+    same("stored constants", &stored, &rust.constants)?;
     let mut without: Vec<u16> = ours.reached.iter().filter(|c| !c.stored).map(|c| c.name).collect();
     without.sort();
-    let told = rust.unstored.iter().map(|x| x.0).collect();
-    same("reached constants without a value", &without, &told)
+    let mut told: Vec<u16> = rust.diagnostics[1].iter().filter(|d| d.message == 5).map(|d| d.name).collect();
+    told.sort();
+    same("names of reached constants without a value", &without, &told)
 }
 
-/// Constants as collections.
-fn constants(ours: &Results, rust: &Lowered) -> Found {
-    let mut stored = Vec::new();
-    let mut unstored = Vec::new();
-    for c in &ours.reached {
-        let resolved = c.resolved.clone();
-        match c.stored {
-            true => stored.push(Constant { name: c.name, value: c.value, resolved, span: c.span }),
-            false => unstored.push((c.name, resolved)),
-        }
-    }
-    stored.sort();
-    unstored.sort();
-    same("stored constants", &stored, &rust.constants)?;
-    same("types of reached constants without a value", &unstored, &rust.unstored)
+fn constant(c: &results::Reached) -> Constant {
+    Constant { name: c.name, value: c.value, resolved: c.resolved.clone(), span: c.span }
 }
 
 /// "always the earliest reached one whose declared references are done", with "names no declared constant twice".
-fn order(book: &Book) -> Vec<Record> {
+pub fn order(book: &Book) -> Vec<Record> {
     let declared: Vec<Record> = book.records.iter().filter(|r| r.kind == 24).copied().collect();
     let names: HashSet<u16> = declared.iter().map(|r| r.a).collect();
     let named: Vec<Vec<u16>> = declared.iter().map(|r| references(book, r.c, &names)).collect();
@@ -141,8 +138,8 @@ fn references(book: &Book, at: u16, declared: &HashSet<u16>) -> Vec<u16> {
     }
 }
 
-/// Diagnostics in order; those of constants as a collection, unless only `one` constant is reached.
-fn messages(ours: &[Diagnostic], trace: &Trace, rust: &Lowered, one: bool) -> Found {
+/// Diagnostics in order; those of constants as a collection, unless their order is `fixed` too.
+fn messages(ours: &[Diagnostic], trace: &Trace, rust: &Lowered, fixed: bool) -> Found {
     let [_, _, aliases, constants, bodies] = trace.diagnostics.map(|n| n as usize);
     let sorted = |all: &[Diagnostic]| {
         let mut all = all.to_vec();
@@ -152,8 +149,8 @@ fn messages(ours: &[Diagnostic], trace: &Trace, rust: &Lowered, one: bool) -> Fo
     same("diagnostics of aliases", &ours[..aliases].to_vec(), &rust.diagnostics[0])?;
     let part = &ours[aliases..constants];
     same("diagnostics of constants", &sorted(part), &sorted(&rust.diagnostics[1]))?;
-    if one {
-        same("diagnostics of the one constant", &part.to_vec(), &rust.diagnostics[1])?;
+    if fixed {
+        same("diagnostics of constants in order", &part.to_vec(), &rust.diagnostics[1])?;
     }
     same("diagnostics of bodies", &ours[constants..bodies].to_vec(), &rust.diagnostics[2])
 }
@@ -203,7 +200,7 @@ fn named_in(t: &Type, out: &mut Vec<u32>) {
     }
 }
 
-/// The type numbers in all that the Rust gives: stored constants by name, unstored ones by name, then bodies.
+/// The type numbers in all that the Rust gives: stored constants by name, then bodies.
 fn named_by(rust: &mut Lowered) -> Vec<u32> {
     let mut out = Vec::new();
     for_types(rust, &mut |t| named_in(t, &mut out));
@@ -213,9 +210,9 @@ fn named_by(rust: &mut Lowered) -> Vec<u32> {
 /// The type numbers of an answer, in the same order.
 fn named_of(ours: &Results) -> Vec<u32> {
     let mut out = Vec::new();
-    let mut reached: Vec<&results::Reached> = ours.reached.iter().collect();
-    reached.sort_by_key(|c| (!c.stored, c.name));
-    reached.iter().for_each(|c| named_in(&c.resolved, &mut out));
+    let mut stored: Vec<&results::Reached> = ours.reached.iter().filter(|c| c.stored).collect();
+    stored.sort_by_key(|c| c.name);
+    stored.iter().for_each(|c| named_in(&c.resolved, &mut out));
     let mut bodies = Lowered { bodies: ours.bodies.clone(), ..Lowered::default() };
     for_types(&mut bodies, &mut |t| named_in(t, &mut out));
     out
@@ -224,7 +221,6 @@ fn named_of(ours: &Results) -> Vec<u32> {
 /// Every type of the constants and the bodies.
 fn for_types(rust: &mut Lowered, f: &mut impl FnMut(&mut Type)) {
     rust.constants.iter_mut().for_each(|c| f(&mut c.resolved));
-    rust.unstored.iter_mut().for_each(|c| f(&mut c.1));
     for body in &mut rust.bodies {
         match body {
             Body::Message { fields, tombstones, .. } => {

@@ -47,7 +47,7 @@ pub struct Outcome {
     pub reply: Reply,
     /// The run with full slices, for a book that is not refused by 1 to 8.
     pub full: Option<Run>,
-    /// Whether the Rust lowered it too.
+    /// Whether it was compared with the Rust's own order of constants too.
     pub compared: bool,
 }
 
@@ -68,11 +68,11 @@ pub fn judge(book: &[u8], results: usize, diagnostics: usize, expected: Option<(
     counted(book, &lent)?;
     let full = full(book)?;
     counted(book, &full)?;
-    let rust = lowered(book, &full)?;
-    let compared = rust.is_some();
+    let rust = in_order(book, &full)?;
     slices(book, &lent, &full, rust.as_ref())?;
-    if let Some(rust) = rust {
-        compare(book, &full, rust)?;
+    let compared = rust.is_some() && agree::compared(book[3] == 1, &full.trace);
+    if compared {
+        together(book, &full)?;
     }
     Ok(Outcome { reply, full: Some(full), compared })
 }
@@ -97,26 +97,37 @@ fn counted(book: &[u8], run: &Run) -> Result<(), String> {
     same("by counting", run.reply, reply)
 }
 
-/// What the Rust makes of a book, where there is something to compare.
-fn lowered(book: &[u8], full: &Run) -> Result<Option<Lowered>, String> {
-    if !matches!(full.reply, Reply::Accepted { .. }) || !agree::compared(book[3] == 1, &full.trace) {
-        return Ok(None);
-    }
-    let given = catch_unwind(AssertUnwindSafe(|| vexil::lower_book(book)));
-    given.map(Some).map_err(|_| "the harness panics".to_string())
-}
-
-fn compare(book: &[u8], full: &Run, rust: Lowered) -> Result<(), String> {
+/// What the Rust makes of an accepted book with its constants one at a time in document 01's order; everything agrees.
+fn in_order(bytes: &[u8], full: &Run) -> Result<Option<Lowered>, String> {
     let Reply::Accepted { results, diagnostics, constants } = full.reply else {
-        return Err("nothing to compare".to_string());
+        return Ok(None);
     };
+    let book = Book::read(bytes).ok_or("a book that is not read back")?;
+    let order: Vec<u16> = agree::order(&book).iter().map(|r| r.a).collect();
+    let rust = unless_it_panics(|| vexil::lower_book_in_order(bytes, &order))?;
     if constants as usize != rust.constants.len() {
         return Err(format!("{constants} stored constants, in the Rust {}", rust.constants.len()));
     }
     let written = results::records(&full.results, results);
     let told = results::records(&full.diagnostics, diagnostics);
-    let book = Book::read(book).ok_or("a book that is not read back")?;
+    agree::agree_in_order(&book, &written, &told, &full.trace, &rust)?;
+    Ok(Some(rust))
+}
+
+/// The same with all constants handed over together; agrees up to the order.
+fn together(bytes: &[u8], full: &Run) -> Result<(), String> {
+    let Reply::Accepted { results, diagnostics, .. } = full.reply else {
+        return Ok(());
+    };
+    let book = Book::read(bytes).ok_or("a book that is not read back")?;
+    let rust = unless_it_panics(|| vexil::lower_book(bytes))?;
+    let written = results::records(&full.results, results);
+    let told = results::records(&full.diagnostics, diagnostics);
     agree::agree(&book, &written, &told, &full.trace, rust)
+}
+
+fn unless_it_panics(lower: impl FnOnce() -> Lowered) -> Result<Lowered, String> {
+    catch_unwind(AssertUnwindSafe(lower)).map_err(|_| "the harness panics".to_string())
 }
 
 /// Both slices behind `r` and `d` bytes are as lent.
@@ -192,16 +203,12 @@ fn short(
 
 /// 10 stands at the item whose result found no room, or in the declaration whose diagnostic did, whichever is met
 /// first.
-fn ten(records: &[Record], place: u32, result: Option<u32>, diagnostic: Option<(u8, u32)>) -> Result<(), String> {
+fn ten(records: &[Record], place: u32, result: Option<u32>, diagnostic: Option<u32>) -> Result<(), String> {
     let here = declaration(records, place);
     let by_result = result == Some(place);
-    let by_diagnostic = match diagnostic {
-        Some((24, _)) => records[here as usize].kind == 24,
-        Some((_, at)) => at == here,
-        None => false,
-    };
+    let by_diagnostic = diagnostic == Some(here);
     let first = match (result, diagnostic) {
-        (Some(r), Some((_, at))) => turn(records, declaration(records, r)).cmp(&turn(records, at)),
+        (Some(r), Some(at)) => turn(records, declaration(records, r)).cmp(&turn(records, at)),
         _ => std::cmp::Ordering::Equal,
     };
     let fits = match first {
@@ -221,13 +228,20 @@ fn declaration(records: &[Record], place: u32) -> u32 {
     kinds.into_iter().rposition(|r| (20..30).contains(&r.kind)).unwrap_or(0) as u32
 }
 
-/// When a declaration has its turn: plain aliases, constants (whose order is another), bodies.
+/// When a declaration has its turn: plain aliases, constants in their order, bodies.
 fn turn(records: &[Record], at: u32) -> (u8, u32) {
     match records[at as usize].kind {
         23 => (0, at),
-        24 => (1, 0),
+        24 => (1, constants_of(records).iter().position(|c| *c == at).unwrap_or(0) as u32),
         _ => (2, at),
     }
+}
+
+/// The record numbers of the reached constants, in document 01's order.
+fn constants_of(records: &[Record]) -> Vec<u32> {
+    let book = Book { wildcards: false, records: records.to_vec() };
+    let place = |c: &Record| records.iter().position(|r| r.kind == 24 && r.a == c.a).map(|i| i as u32);
+    agree::order(&book).iter().filter_map(place).collect()
 }
 
 /// The record of the book that result n belongs to, by its span; none if another record of that kind has the same one.
@@ -247,29 +261,30 @@ fn owner(written: &[Record], n: usize, records: &[Record]) -> Option<u32> {
     }
 }
 
-/// Kind and record number of the declaration that gives diagnostic d, as the Rust tells it. Of constants only the kind
-/// is known.
-fn teller(records: &[Record], d: usize, full: &Run, rust: Option<&Lowered>) -> Option<(u8, u32)> {
+/// The declaration that gives diagnostic d, as the Rust tells it.
+fn teller(records: &[Record], d: usize, full: &Run, rust: Option<&Lowered>) -> Option<u32> {
     let rust = rust?;
-    let places = |kinds: &[u8], plain: bool| -> Vec<u32> {
-        let items: Vec<usize> = (0..records.len()).filter(|i| records[*i].kind >= 20).collect();
-        let generic = |k: usize| items.get(k + 1).is_some_and(|i| records[*i].kind == 30);
-        let chosen =
-            items.iter().enumerate().filter(|(k, i)| kinds.contains(&records[**i].kind) && !(plain && generic(*k)));
-        chosen.map(|(_, i)| *i as u32).collect()
+    let places = |kinds: &[u8]| {
+        let chosen = (0..records.len()).filter(|i| kinds.contains(&records[*i].kind) && !is_generic(records, *i));
+        chosen.map(|i| i as u32).collect::<Vec<u32>>()
     };
     let [_, _, aliases, constants, all] = full.trace.diagnostics.map(|n| n as usize);
     let (mut left, counts, places) = match d {
-        d if d < aliases => (d, &rust.told[0], places(&[23], true)),
-        d if d < constants => return records.iter().position(|r| r.kind == 24).map(|i| (24, i as u32)),
-        d if d < all => (d - constants, &rust.told[1], places(&[20, 21, 22], false)),
+        d if d < aliases => (d, &rust.told[0], places(&[23])),
+        d if d < constants => (d - aliases, &rust.told[1], constants_of(records)),
+        d if d < all => (d - constants, &rust.told[2], places(&[20, 21, 22])),
         _ => return None,
     };
     for (count, place) in counts.iter().zip(places) {
         if left < *count {
-            return Some((records[place as usize].kind, place));
+            return Some(place);
         }
         left -= count;
     }
     None
+}
+
+/// Whether a record is an alias with a type parameter.
+fn is_generic(records: &[Record], at: usize) -> bool {
+    records[at].kind == 23 && records[at + 1..].iter().find(|r| r.kind >= 20).is_some_and(|r| r.kind == 30)
 }

@@ -6,6 +6,7 @@ mod counts;
 #[cfg(test)]
 mod differences;
 mod judge;
+mod mutants;
 mod named;
 mod results;
 mod rows;
@@ -15,7 +16,7 @@ mod shrink;
 use std::time::Instant;
 
 const HELP: &str = "usage: oracle/run [--books N] [--damaged M] [--seed S] [--least L]
-  --books N     until N accepted books agree with the Rust (default 2000)
+  --books N     until N accepted books agree with the Rust, its own order of constants too (default 2000)
   --damaged M   M damaged books (default 5000)
   --seed S      the same seed gives the same books (default 1)
   --least L     fail if a kind, sub, message or cause came in fewer than L books (default 0)";
@@ -64,7 +65,10 @@ fn on_answers(words: &[String]) -> ! {
     };
     match done {
         Ok(text) => println!("{}", text.trim_end()),
-        Err(why) => stop(&why),
+        Err(why) => {
+            eprintln!("{why}");
+            std::process::exit(1)
+        }
     }
     std::process::exit(0)
 }
@@ -72,8 +76,10 @@ fn on_answers(words: &[String]) -> ! {
 fn main() {
     let words: Vec<String> = std::env::args().skip(1).collect();
     if let Some((first, rest)) = words.split_first() {
-        if first == "answers" {
-            on_answers(rest);
+        match first.as_str() {
+            "answers" => on_answers(rest),
+            "mutants" => std::process::exit(!mutants::run(rest) as i32),
+            _ => {}
         }
     }
     let o = options();
@@ -82,10 +88,8 @@ fn main() {
     let all = run::run(o.books, o.damaged, o.seed);
     all.counts.print();
     println!("{} books with names, {} readable, {} damaged", all.named, all.generated, o.damaged);
-    println!(
-        "{} of the readable are accepted with full slices, {} of these compared with the Rust",
-        all.accepted, all.compared
-    );
+    println!("{} of the readable are accepted with full slices and agree with the Rust", all.accepted);
+    println!("{} of these also with its own order of constants", all.compared);
     println!("{:.1} s", start.elapsed().as_secs_f64());
     let rare = all.counts.rare(o.least);
     rare.iter().for_each(|r| println!("rare: {r}"));

@@ -2,6 +2,7 @@
 //! from document 01.
 
 mod bodies;
+mod children;
 mod constants;
 mod draft;
 mod faults;
@@ -66,8 +67,10 @@ pub fn all() -> Vec<Named> {
     constants::proving_runs(&mut to);
     bodies::proving_runs(&mut to);
     types::proving_runs(&mut to);
+    types::wild_runs(&mut to);
     constants::arithmetic(&mut to);
     constants::orders(&mut to);
+    constants::types(&mut to);
     types::slips(&mut to);
     bodies::slips(&mut to);
     limits::depths(&mut to);
@@ -82,9 +85,10 @@ pub fn all() -> Vec<Named> {
     bodies::limit_arguments(&mut to);
     bodies::tombstones(&mut to);
     faults::edges(&mut to);
-    faults::groups(&mut to);
+    children::children(&mut to);
     faults::follow_rule(&mut to);
     faults::names_again(&mut to);
     faults::blocks(&mut to);
+    faults::late(&mut to);
     to.all
 }

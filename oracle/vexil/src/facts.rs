@@ -117,15 +117,15 @@ pub struct Lowered {
     pub aliases: Vec<(u16, Type)>,
     /// By name.
     pub constants: Vec<Constant>,
-    /// Each reached constant without a value, by name, with the type that `resolve_type_expr` gives for it once more
-    /// after all constants: the source itself drops it.
+    /// Each reached constant without a value, by name, with its type; empty where constants are handed over together.
     pub unstored: Vec<(u16, Type)>,
     /// In book order.
     pub bodies: Vec<Body>,
     /// Of the plain aliases, the constants and the bodies, each in the order given.
     pub diagnostics: [Vec<Diagnostic>; 3],
-    /// How many diagnostics each plain alias and each body gave, in book order.
-    pub told: [Vec<usize>; 2],
+    /// How many diagnostics each plain alias and each body gave, in book order, and between them each constant, where
+    /// these are handed over one at a time.
+    pub told: [Vec<usize>; 3],
     /// The length of the registry after the declarations, the generic aliases, the plain aliases, the constants and the
     /// bodies.
     pub lengths: [u32; 5],

@@ -19,11 +19,13 @@ fn book(rng: &mut Rng, blocks: usize) -> Book {
     book
 }
 
-/// The bytes of a book of one to five blocks, and one of its blocks.
+/// The bytes of a book of one to five blocks, or in one of six cases of up to 64, and one of its blocks, often the
+/// last.
 fn some(rng: &mut Rng) -> (Vec<u8>, usize) {
-    let blocks = *rng.pick(&[1, 1, 2, 3, 5]);
+    let blocks = if rng.chance(6) { rng.between(6, MOST_BLOCKS) } else { *rng.pick(&[1, 1, 2, 3, 5]) };
     let bytes = book(rng, blocks).bytes();
-    let block = rng.between(0, bytes.len() / BLOCK - 1);
+    let last = bytes.len() / BLOCK - 1;
+    let block = if rng.chance(3) { last } else { rng.between(0, last) };
     (bytes, block)
 }
 

@@ -115,6 +115,13 @@ fn constraints(to: &mut Books) {
         d.field(2, t, both);
         to.add(format!("operand-{sub}"), &d, accepted(10, 0, 0));
     }
+    let mut d = Draft::default();
+    let (l, r) = (d.put(16, 4, [0; 3], 0), d.put(16, 4, [0; 3], 8));
+    let range = d.put(15, 1, [l, r, 1], 0);
+    d.message(1);
+    let t = d.u8();
+    d.field(2, t, range);
+    to.add("value-in-a-range", &d, accepted(7, 0, 0));
 }
 
 /// A message's delta over every primitive and sub-byte, with each encoding of the field's own.
@@ -136,6 +143,39 @@ pub fn encodings(to: &mut Books) {
         annotated(&mut d, 2, t, all);
     }
     to.add("annotations-together", &d, accepted(19, 0, 0));
+    delta_through_alias(to);
+    message_not_delta(to);
+}
+
+/// What the type is resolved to counts: u16 by a plain alias, u8 by a generic one.
+fn delta_through_alias(to: &mut Books) {
+    let mut d = Draft::default();
+    let t = d.primitive(2);
+    d.alias(5, t, &[]);
+    let t = d.named(10);
+    d.alias(6, t, &[10]);
+    d.message(1);
+    d.annotation(2);
+    let t = d.named(5);
+    d.field(2, t, NONE);
+    let t = d.generic_u8(6);
+    d.field(3, t, NONE);
+    to.add("delta-through-alias", &d, accepted(9, 0, 0));
+}
+
+/// Of a message's own annotations only delta reaches its fields.
+fn message_not_delta(to: &mut Books) {
+    let mut d = Draft::default();
+    d.message(1);
+    for sub in [0, 1, 3, 4] {
+        d.annotation(sub);
+        if sub == 3 {
+            d.argument(0, NONE, 7);
+        }
+    }
+    let t = d.primitive(2);
+    d.field(2, t, NONE);
+    to.add("message-not-delta", &d, accepted(4, 0, 0));
 }
 
 /// A field with its annotations.
@@ -192,4 +232,20 @@ pub fn tombstones(to: &mut Books) {
         });
     }
     to.add("tombstones", &d, accepted(10, 0, 0));
+    tombstones_of_both(to);
+}
+
+/// A union with a tombstone of a variant, then one of its own, then a variant that opens it again.
+fn tombstones_of_both(to: &mut Books) {
+    let mut d = Draft::default();
+    d.union(1);
+    d.variant(2, 4);
+    let t = d.u8();
+    d.tombstone(0, t, 6);
+    d.put(36, 0, [7, 0, 0], 0);
+    d.tombstone(1, NONE, 8);
+    d.put(36, 1, [9, 0, 0], 0);
+    d.variant(3, 5);
+    d.field_u8(4);
+    to.add("tombstones-of-both", &d, accepted(9, 0, 0));
 }

@@ -1,4 +1,4 @@
-//! Constants: K1 to K7, every operator at its corners, constants in other orders.
+//! Constants: K1 to K7, every operator at its corners, constants in other orders, types that are unknown.
 
 use super::{accepted, Books, Draft};
 use model::Reply;
@@ -62,6 +62,17 @@ pub fn k7() -> Draft {
     same(&mut d, 1, 2);
     same(&mut d, 2, 1);
     d
+}
+
+/// 1 ÷ 0.
+fn none(d: &mut Draft) -> u16 {
+    let (l, r) = (d.int(1), d.int(0));
+    d.operation(3, l, r)
+}
+
+/// A constant of some type.
+fn typed(d: &mut Draft, name: u16, t: u16, e: u16) {
+    d.put(24, 0, [name, t, e], 0);
 }
 
 /// "Proving runs".
@@ -141,6 +152,11 @@ pub fn arithmetic(to: &mut Books) {
         d.constant(1, e);
         to.add(format!("literal-{sub}-{i}"), &d, value(*some));
     }
+    let mut d = Draft::default();
+    let (l, r) = (d.int(0), none(&mut d));
+    let e = d.operation(2, l, r);
+    d.constant(1, e);
+    to.add("zero-times-none", &d, value(false));
 }
 
 /// Constants in other orders, rings, repeats.
@@ -170,4 +186,49 @@ pub fn orders(to: &mut Books) {
     let mut diamond = k1();
     both(&mut diamond, 3, 0, [1, 2]);
     to.add("diamond", &diamond, accepted(6, 0, 3));
+}
+
+/// Puts a type and gives its number.
+type Make = fn(&mut Draft) -> u16;
+
+const STUB: Make = |d| d.named(5);
+const NAMESPACE: Make = |d| d.qualified(5, 6);
+const HEAD: Make = |d| d.generic_u8(5);
+
+/// The types of two constants with wildcards, and how many diagnostics. N5 has a number once it is met alone, and is no
+/// generic alias: messages 2, 3 and 4 in the last three.
+const STUBS: [(&str, [Make; 2], u32); 4] = [
+    ("stub-then-namespace", [STUB, NAMESPACE], 0),
+    ("namespace-then-stub", [NAMESPACE, STUB], 1),
+    ("stub-then-head", [STUB, HEAD], 1),
+    ("head-then-stub", [HEAD, STUB], 1),
+];
+
+/// Constants' types that are unknown, in the order in which the constants are done.
+pub fn types(to: &mut Books) {
+    for (name, types, told) in STUBS {
+        let mut d = Draft::default();
+        for (n, make) in types.iter().enumerate() {
+            let (t, e) = (make(&mut d), d.int(1));
+            typed(&mut d, n as u16 + 1, t, e);
+        }
+        to.add(name, &d.wild(), accepted(4, told, 2));
+    }
+    let stubs = second_first(|d| d.int(1));
+    to.add("stubs-of-constants", &stubs.wild(), accepted(4, 0, 2));
+    to.add("told-by-two-constants", &second_first(none), accepted(4, 4, 0));
+    let mut d = Draft::default();
+    let (t, e) = (d.named(5), none(&mut d));
+    typed(&mut d, 1, t, e);
+    to.add("unstored-with-stub-type", &d.wild(), accepted(2, 1, 0));
+}
+
+/// A constant N1 of the unknown type N5, which is N2; and N2 of the unknown type N6, which is done first.
+fn second_first(value: Make) -> Draft {
+    let mut d = Draft::default();
+    let (t, e) = (d.named(5), d.reference(2));
+    typed(&mut d, 1, t, e);
+    let (t, e) = (d.named(6), value(&mut d));
+    typed(&mut d, 2, t, e);
+    d
 }

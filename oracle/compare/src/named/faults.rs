@@ -1,4 +1,4 @@
-//! Books with one fault: each field just outside its values, children of the wrong group, items that do not follow.
+//! Books with one fault: each field just outside its values, items that do not follow, names again, blocks.
 
 use super::draft::NONE;
 use super::{accepted, refused, Books, Draft, FULL};
@@ -8,25 +8,30 @@ use books::{seal, Record};
 /// A book that is accepted and has a record of this kind and sub, and that record's number.
 fn sound(kind: u8, sub: u8) -> (Draft, u16) {
     let mut d = Draft::default();
-    let at = match kind {
+    let at = put_sound(&mut d, kind, sub);
+    (d, at)
+}
+
+/// Puts a record of this kind and sub with what it needs, and gives its number. The names 1 and 2 stay free.
+pub fn put_sound(d: &mut Draft, kind: u8, sub: u8) -> u16 {
+    match kind {
         1..=9 => {
-            let at = sound_type(&mut d, kind, sub);
+            let at = sound_type(d, kind, sub);
             d.newtype(3, at);
             at
         }
         10..=12 => {
-            let at = sound_expression(&mut d, kind, sub);
+            let at = sound_expression(d, kind, sub);
             d.constant(3, at);
             at
         }
-        13..=16 => sound_constraint(&mut d, kind, sub),
-        20..=25 => declare(&mut d, kind),
-        _ => sound_item(&mut d, kind, sub),
-    };
-    (d, at)
+        13..=16 => sound_constraint(d, kind, sub),
+        20..=25 => declare(d, kind),
+        _ => sound_item(d, kind, sub),
+    }
 }
 
-fn sound_type(d: &mut Draft, kind: u8, sub: u8) -> u16 {
+pub fn sound_type(d: &mut Draft, kind: u8, sub: u8) -> u16 {
     match kind {
         2 => d.put(2, sub, [7, 0, 0], 0),
         4 => d.named(3),
@@ -45,7 +50,7 @@ fn sound_type(d: &mut Draft, kind: u8, sub: u8) -> u16 {
     }
 }
 
-fn sound_expression(d: &mut Draft, kind: u8, sub: u8) -> u16 {
+pub fn sound_expression(d: &mut Draft, kind: u8, sub: u8) -> u16 {
     match kind {
         10 => d.literal(sub, 1),
         11 => d.reference(9),
@@ -66,10 +71,7 @@ fn sound_constraint(d: &mut Draft, kind: u8, sub: u8) -> u16 {
             d.put(13, sub, [l, r, 0], 0)
         }
         14 => comparison(d, sub),
-        15 => {
-            let (l, r) = (d.operand(5), d.operand(5));
-            d.put(15, sub, [l, r, 0], 0)
-        }
+        15 => range(d, sub),
         _ => d.put(16, sub, [if sub == 2 || sub == 5 { 6 } else { 0 }, 0, 0], 0),
     };
     let root = if kind == 16 { d.put(14, 0, [at, 0, 0], 0) } else { at };
@@ -79,9 +81,15 @@ fn sound_constraint(d: &mut Draft, kind: u8, sub: u8) -> u16 {
 }
 
 /// A 14 over an operand.
-fn comparison(d: &mut Draft, sub: u8) -> u16 {
+pub fn comparison(d: &mut Draft, sub: u8) -> u16 {
     let o = d.operand(5);
     d.put(14, sub, [o, 0, 0], 0)
+}
+
+/// A 15 over two operands.
+pub fn range(d: &mut Draft, sub: u8) -> u16 {
+    let (l, r) = (d.operand(5), d.operand(5));
+    d.put(15, sub, [l, r, 0], 0)
 }
 
 fn sound_item(d: &mut Draft, kind: u8, sub: u8) -> u16 {
@@ -153,66 +161,6 @@ fn set(r: &mut Record, edge: Edge) -> String {
             format!("{old}-v")
         }
     }
-}
-
-/// For each group of children its name, a kind of it, and a kind that has such a child.
-const GROUPS: [(&str, u8, u8); 4] =
-    [("type", 1, 7), ("expression", 10, 12), ("constraint", 14, 13), ("operand", 16, 14)];
-
-/// A child of each wrong group, one that is used already, and one that is not earlier.
-pub fn groups(to: &mut Books) {
-    for (wanted, _, parent) in GROUPS {
-        for (given, kind, _) in GROUPS.iter().filter(|g| g.0 != wanted) {
-            let name = format!("5-{}-for-{}", &given[..4], &wanted[..4]);
-            to.refuse(name, 5, |d| wrong_group(d, *kind, parent));
-        }
-    }
-    used_before(to);
-    not_earlier(to);
-}
-
-/// A record of kind `parent` over one of kind `kind`.
-fn wrong_group(d: &mut Draft, kind: u8, parent: u8) -> u16 {
-    let o = if kind == 14 { d.operand(1) } else { 0 };
-    let child = d.put(kind, 0, [o, 0, 0], 0);
-    let second = if parent == 7 || parent == 14 { 0 } else { child };
-    d.put(parent, 0, [child, second, 0], 0)
-}
-
-/// A child that is used already, also by the same record.
-fn used_before(to: &mut Books) {
-    to.refuse("5-child-named-twice", 5, |d| {
-        let t = d.u8();
-        d.map(t, t)
-    });
-    to.refuse("5-operand-named-twice", 5, |d| {
-        let e = d.int(1);
-        d.operation(0, e, e)
-    });
-    to.refuse("5-child-used-before", 5, |d| {
-        let t = d.u8();
-        d.newtype(1, t);
-        d.newtype(2, t)
-    });
-    to.refuse("5-used-by-unused", 5, |d| {
-        let t = d.u8();
-        d.one(0, t);
-        d.one(0, t)
-    });
-}
-
-/// A child that is the record itself, one behind it, and one that is a declaration.
-fn not_earlier(to: &mut Books) {
-    to.refuse("5-child-is-itself", 5, |d| d.one(0, 0));
-    to.refuse("5-child-later", 5, |d| {
-        let at = d.one(0, 1);
-        d.u8();
-        at
-    });
-    to.refuse("5-declaration-as-child", 5, |d| {
-        d.message(1);
-        d.newtype(2, 0)
-    });
 }
 
 /// Records that another may stand behind: a name, kind and sub of each. `sound` puts 32 sub 1 and 33 in a union, and
@@ -345,4 +293,56 @@ pub fn blocks(to: &mut Books) {
     bytes[4] = 99;
     seal(&mut bytes, 0);
     to.bytes("2-before-an-earlier-4", bytes, FULL, refused(2, 1));
+}
+
+/// A byte of a block of a book of 64 that is not as it should be: name, cause, block, byte, value.
+const LATE_BYTES: [(&str, u8, usize, usize, u8); 4] = [
+    ("2-block-63", 2, 63, 507, 1),
+    ("3-number-block-63", 3, 63, 0, 62),
+    ("3-byte-3-block-63", 3, 63, 3, 1),
+    ("3-byte-508-block-40", 3, 40, 508, 1),
+];
+
+/// Puts the first records or the last one of a book of 64 blocks.
+type End = fn(&mut Draft) -> u16;
+
+/// A cause that the last record falls under: no such kind; a child that was used long before; a field in a union
+/// without a variant; a name again.
+const LATE_RECORDS: [(u8, End, End); 4] = [
+    (4, |d| d.u8(), |d| d.put(99, 0, [0; 3], 0)),
+    (5, array_of_u8, |d| d.one(0, 0)),
+    (6, |d| d.union(3), |d| d.field(4, 1, NONE)),
+    (7, |d| d.message(3), |d| d.union(3)),
+];
+
+fn array_of_u8(d: &mut Draft) -> u16 {
+    d.arrays_u8(2)
+}
+
+/// 1,344 records; those between the ends are u8 that nothing uses.
+fn longest(first: End, last: End) -> Draft {
+    let mut d = Draft::default();
+    first(&mut d);
+    while d.book.records.len() < 1_343 {
+        d.u8();
+    }
+    last(&mut d);
+    d
+}
+
+/// Faults at the end of the longest book.
+pub fn late(to: &mut Books) {
+    let sound = longest(|d| d.u8(), |d| d.u8());
+    to.add("64-blocks-unused", &sound, accepted(0, 0, 0));
+    for (name, cause, block, at, value) in LATE_BYTES {
+        let mut bytes = sound.book.bytes();
+        bytes[512 * block + at] = value;
+        if cause == 3 {
+            seal(&mut bytes, block);
+        }
+        to.bytes(name, bytes, FULL, refused(cause, block as u16));
+    }
+    for (cause, first, last) in LATE_RECORDS {
+        to.add(format!("{cause}-record-1343"), &longest(first, last), refused(cause, 1_343));
+    }
 }

@@ -15,6 +15,14 @@ pub fn depths(to: &mut Books) {
         tree(to, depth, "constraint", deep_constraint, accepted(results + 4, 0, 0));
         tree(to, depth, "unused", Draft::arrays_u8, accepted(0, 0, 0));
     }
+    for depth in [64, 65] {
+        let results = depth as u32;
+        tree(to, depth, "right-type", right_type, accepted(2 * results, 0, 0));
+        tree(to, depth, "right-constant", right_constant, accepted(2, 0, 1));
+        tree(to, depth, "right-and", right_constraint, accepted(3 * results, 0, 0));
+        tree(to, depth, "range", deep_range, accepted(results + 5, 0, 0));
+        tree(to, depth, "generic", deep_argument, accepted(0, 0, 0));
+    }
 }
 
 /// A book with a tree of some depth, which `make` puts and gives the root of.
@@ -41,15 +49,73 @@ fn deep_constant(d: &mut Draft, depth: usize) -> u16 {
 }
 
 fn deep_constraint(d: &mut Draft, depth: usize) -> u16 {
+    let c = comparison(d);
+    nots(d, c, depth)
+}
+
+/// A comparison with an operand, of depth 2.
+fn comparison(d: &mut Draft) -> u16 {
     let operand = d.operand(7);
-    let mut c = d.put(14, 2, [operand, 0, 0], 0);
-    for _ in 2..depth {
-        c = d.put(13, 2, [c, 0, 0], 0);
-    }
+    d.put(14, 2, [operand, 0, 0], 0)
+}
+
+/// Nots over a constraint of depth 2, in a field.
+fn nots(d: &mut Draft, inner: u16, depth: usize) -> u16 {
+    let c = (2..depth).fold(inner, |c, _| d.put(13, 2, [c, 0, 0], 0));
+    constrained(d, c)
+}
+
+/// A message with a field of u8 that has this constraint; gives the constraint.
+fn constrained(d: &mut Draft, c: u16) -> u16 {
     d.message(1);
     let t = d.u8();
     d.field(2, t, c);
     c
+}
+
+/// Maps of u8 and the next one.
+fn right_type(d: &mut Draft, depth: usize) -> u16 {
+    let mut t = d.u8();
+    for _ in 1..depth {
+        let key = d.u8();
+        t = d.map(key, t);
+    }
+    d.newtype(1, t);
+    t
+}
+
+/// 1 + (1 + ...).
+fn right_constant(d: &mut Draft, depth: usize) -> u16 {
+    let mut e = d.int(0);
+    for _ in 1..depth {
+        let one = d.int(1);
+        e = d.operation(0, one, e);
+    }
+    d.constant(1, e);
+    e
+}
+
+/// Ands of a comparison and the next one.
+fn right_constraint(d: &mut Draft, depth: usize) -> u16 {
+    let mut c = comparison(d);
+    for _ in 2..depth {
+        let left = comparison(d);
+        c = d.put(13, 0, [left, c, 0], 0);
+    }
+    constrained(d, c)
+}
+
+/// Nots over a range.
+fn deep_range(d: &mut Draft, depth: usize) -> u16 {
+    let (l, r) = (d.operand(1), d.operand(2));
+    let range = d.put(15, 0, [l, r, 0], 0);
+    nots(d, range, depth)
+}
+
+/// A generic over arrays, which nothing uses.
+fn deep_argument(d: &mut Draft, depth: usize) -> u16 {
+    let argument = d.arrays_u8(depth - 1);
+    d.generic(9, argument)
 }
 
 /// That many newtypes, of two records each.

@@ -52,6 +52,12 @@ pub fn proving_runs(to: &mut Books) {
     to.add("K12", &k12(), accepted(2, 0, 0));
 }
 
+/// K10 and K11 with wildcards: the parameter that is not replaced becomes a stub.
+pub fn wild_runs(to: &mut Books) {
+    to.add("K10-wild", &k10().wild(), accepted(3, 0, 0));
+    to.add("K11-wild", &k11().wild(), accepted(4, 0, 0));
+}
+
 /// "Slips we've seen proposed": "making a stub for an unknown generic head". K5, K6 and K10 are proving runs.
 pub fn slips(to: &mut Books) {
     let mut head = Draft::default();
@@ -102,7 +108,41 @@ pub fn names(to: &mut Books) {
     for (name, make, results, told) in NAMES {
         to.add(format!("{name}-wild"), &make().wild(), accepted(results, told[1], 0));
     }
+    to.add("ambiguous-name-0", &newtype(|d| ambiguous(d, 0)), accepted(2, 1, 0));
+    to.add("ambiguous-namespace", &newtype(ambiguous_namespace), accepted(2, 1, 0));
     plain_aliases(to);
+    copies(to);
+}
+
+/// A namespace name that is ambiguous has no number: message 2, not 0.
+fn ambiguous_namespace(d: &mut Draft) -> u16 {
+    d.ambiguous(8);
+    d.qualified(8, 9)
+}
+
+/// A target of a plain alias, and how many results it has.
+const COPIES: [(&str, Make, u32); 3] = [
+    ("alias-of-bits", |d| d.put(9, 0, [77, 0, 0], 0), 1),
+    ("alias-of-sub-byte", |d| d.put(2, 1, [5, 0, 0], 0), 1),
+    ("alias-of-fixed-array", fixed_array, 2),
+];
+
+/// A FixedArray of nine u8.
+fn fixed_array(d: &mut Draft) -> u16 {
+    let t = d.u8();
+    d.put(7, 2, [t, 0, 0], 9)
+}
+
+/// A plain alias N1 of each target and a newtype over it: the target's fields are copied too.
+fn copies(to: &mut Books) {
+    for (name, target, results) in COPIES {
+        let mut d = Draft::default();
+        let t = target(&mut d);
+        d.alias(1, t, &[]);
+        let t = d.named(1);
+        d.newtype(3, t);
+        to.add(name, &d, accepted(2 * (results + 1), 0, 0));
+    }
 }
 
 /// Plain aliases: chains, used before they are there, as namespace, to poison.
@@ -207,6 +247,26 @@ fn arguments(to: &mut Books) {
     let t = d.generic(1, unknown);
     d.newtype(3, t);
     to.add("argument-never-resolved", &d, accepted(4, 0, 0));
+    argument_parts(to);
+}
+
+/// A part of an argument keeps its own span; an argument is resolved at each place of the parameter.
+fn argument_parts(to: &mut Books) {
+    let mut d = Draft::default();
+    let t = d.named(10);
+    d.alias(1, t, &[10]);
+    let unknown = d.named(9);
+    let array = d.one(1, unknown);
+    let t = d.generic(1, array);
+    d.newtype(3, t);
+    to.add("span-of-argument-part", &d, accepted(3, 1, 0));
+    let mut d = used(parameter_twice, &[10]);
+    let l = d.generic_u8(1);
+    let unknown = d.named(9);
+    let r = d.generic(1, unknown);
+    let t = d.map(l, r);
+    d.newtype(3, t);
+    to.add("generic-twice-in-a-map", &d, accepted(12, 2, 0));
 }
 
 /// A head that is a plain alias of a generic one, and a generic alias behind the plain one that uses it.

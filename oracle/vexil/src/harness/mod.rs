@@ -28,8 +28,18 @@ struct Record {
 
 const NONE: u16 = 65_535;
 
-/// The lowering of a book that is accepted. Another one may panic here, or fill the stack.
+/// The lowering of a book that is accepted, its constants handed over together, as the original does it. Another book
+/// may panic here, or fill the stack.
 pub fn lower_book(book: &[u8]) -> Lowered {
+    lower_book_with(book, constants)
+}
+
+/// The same with its constants handed over one at a time, in an order that names those that are reached.
+pub fn lower_book_in_order(book: &[u8], order: &[u16]) -> Lowered {
+    lower_book_with(book, |schema, ctx, given| constants_in_order(schema, order, ctx, given))
+}
+
+fn lower_book_with(book: &[u8], constants: impl FnOnce(&Schema, &mut LowerCtx, &mut Lowered)) -> Lowered {
     let records = records(book);
     let schema = declarations::schema(&records);
     let mut ctx = LowerCtx::new();
@@ -39,7 +49,7 @@ pub fn lower_book(book: &[u8]) -> Lowered {
     for r in records.iter().filter(|r| r.kind == 25) {
         ctx.wildcard_origins.insert(name(r.a), None);
     }
-    run(&schema, &mut ctx)
+    run(&schema, &mut ctx, constants)
 }
 
 /// The diagnostics of the original's own entry, which takes another order than document 01. Names that are ambiguous
@@ -54,7 +64,11 @@ pub fn lower_with_own_order(book: &[u8]) -> Vec<facts::Diagnostic> {
 }
 
 /// The calls, in document 01's order, and what each part gives.
-fn run(schema: &Schema, ctx: &mut LowerCtx) -> Lowered {
+fn run(
+    schema: &Schema,
+    ctx: &mut LowerCtx,
+    constants: impl FnOnce(&Schema, &mut LowerCtx, &mut Lowered),
+) -> Lowered {
     let mut given = Lowered::default();
     let ids = register_declarations(schema, "", ctx);
     given.lengths[0] = ctx.registry.len() as u32;
@@ -70,6 +84,7 @@ fn run(schema: &Schema, ctx: &mut LowerCtx) -> Lowered {
     given.lengths[2] = ctx.registry.len() as u32;
     given.diagnostics[0] = given::diagnostics(ctx.diagnostics.drain(..));
     constants(schema, ctx, &mut given);
+    given.diagnostics[1] = given::diagnostics(ctx.diagnostics.drain(..));
     given.lengths[3] = ctx.registry.len() as u32;
     bodies(schema, &ids, ctx, &mut given);
     given.lengths[4] = ctx.registry.len() as u32;
@@ -79,24 +94,36 @@ fn run(schema: &Schema, ctx: &mut LowerCtx) -> Lowered {
 }
 
 /// Constants are handed over as `lower_with_deps` does it, then evaluated.
-fn constants(schema: &Schema, ctx: &mut LowerCtx, given: &mut Lowered) {
-    for decl in &schema.declarations {
-        if let Decl::Const(c) = &decl.node {
-            ctx.const_decls.insert(c.name.node.clone(), (c.clone(), decl.span));
+fn constants(schema: &Schema, ctx: &mut LowerCtx, _given: &mut Lowered) {
+    ctx.const_decls = declared_constants(schema).collect();
+    evaluate_constants(ctx);
+}
+
+/// Each constant by itself, over the values of those before it. The type of one without a value, which the original
+/// drops, is asked for beforehand; then the registry is put back, so that this changes nothing.
+fn constants_in_order(schema: &Schema, order: &[u16], ctx: &mut LowerCtx, given: &mut Lowered) {
+    let declared: HashMap<SmolStr, (ConstDecl, Span)> = declared_constants(schema).collect();
+    for n in order {
+        let (constant, span) = declared[&name(*n)].clone();
+        let (registry, told) = (ctx.registry.clone(), ctx.diagnostics.len());
+        let resolved = resolve_type_expr(&constant.ty.node, constant.ty.span, ctx);
+        ctx.registry = registry;
+        ctx.diagnostics.truncate(told);
+        ctx.const_decls = HashMap::from([(name(*n), (constant, span))]);
+        evaluate_constants(ctx);
+        given.told[1].push(ctx.diagnostics.len() - told);
+        if !ctx.constants.contains_key(&name(*n)) {
+            given.unstored.push((*n, given::resolved(&resolved)));
         }
     }
-    evaluate_constants(ctx);
-    given.diagnostics[1] = given::diagnostics(ctx.diagnostics.drain(..));
-    // The registry is put back, so that asking for a type again changes nothing.
-    let registry = ctx.registry.clone();
-    for d in given.diagnostics[1].iter().filter(|d| d.message == 5) {
-        let (c, _) = ctx.const_decls[&name(d.name)].clone();
-        let resolved = resolve_type_expr(&c.ty.node, c.ty.span, ctx);
-        given.unstored.push((d.name, given::resolved(&resolved)));
-    }
-    ctx.registry = registry;
-    ctx.diagnostics.clear();
     given.unstored.sort();
+}
+
+fn declared_constants(schema: &Schema) -> impl Iterator<Item = (SmolStr, (ConstDecl, Span))> + '_ {
+    schema.declarations.iter().filter_map(|d| match &d.node {
+        Decl::Const(c) => Some((c.name.node.clone(), (c.clone(), d.span))),
+        _ => None,
+    })
 }
 
 /// Messages, unions and newtypes, each put into its slot of the registry.
@@ -107,7 +134,7 @@ fn bodies(schema: &Schema, ids: &[TypeId], ctx: &mut LowerCtx, given: &mut Lower
             let id = *numbers.next().expect("a number for each declaration");
             let before = ctx.diagnostics.len();
             let definition = lower_decl(&decl.node, decl.span, ctx);
-            given.told[1].push(ctx.diagnostics.len() - before);
+            given.told[2].push(ctx.diagnostics.len() - before);
             given.bodies.push(given::body(&definition));
             *ctx.registry.get_mut(id).expect("a slot for each number") = definition;
         }

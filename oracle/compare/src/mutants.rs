@@ -79,12 +79,22 @@ fn copy(from: &Path, to: &Path) -> std::io::Result<()> {
     Ok(())
 }
 
-/// Whether a command of the copy ends well; it is stopped after two minutes, which is a difference too.
-fn ends_well(folder: &Path, program: &str, words: &[&str]) -> bool {
+/// Whether a command of the copy ends well (0) or says that it does not (1); anything else, as an end by a signal or
+/// after two minutes, is an error.
+fn ends_well(folder: &Path, program: &str, words: &[&str]) -> Result<bool, String> {
     let mut command = Command::new("timeout");
-    command.arg("120").arg(program).args(words).current_dir(folder).env("CARGO_INCREMENTAL", "1");
-    command.stdout(Stdio::null()).stderr(Stdio::null()).status().is_ok_and(|s| s.success())
+    command.arg("120").arg(program).args(words).current_dir(folder);
+    command.env("CARGO_INCREMENTAL", "1").env_remove("CARGO_TARGET_DIR");
+    let status = command.stdout(Stdio::null()).stderr(Stdio::null()).status().map_err(|e| e.to_string())?;
+    match status.code() {
+        Some(0) => Ok(true),
+        Some(1) => Ok(false),
+        _ => Err(format!("{program} ends with {status}")),
+    }
 }
+
+const BUILD: [&str; 8] = ["build", "--quiet", "--offline", "--release", "--package", "compare", "--bin", "compare"];
+const RUN: [&str; 6] = ["--books", "4000", "--damaged", "20000", "--seed", "5"];
 
 /// Tries one mutant in a copy: whether the runs agree, and whether the list of answers holds.
 fn attempt(m: &Mutant, here: &Path, folder: &Path) -> Result<(bool, bool), String> {
@@ -94,16 +104,10 @@ fn attempt(m: &Mutant, here: &Path, folder: &Path) -> Result<(bool, bool), Strin
             fs::write(folder.join("model/src").join(&file), edited(&file, &text, m)?).map_err(|e| e.to_string())?;
         }
     }
-    if !ends_well(
-        folder,
-        "cargo",
-        &["build", "--quiet", "--offline", "--release", "--package", "compare", "--bin", "compare"],
-    ) {
-        return Err("it does not compile".to_string());
-    }
-    let list = here.join("../crates/replay");
-    let agree = ends_well(folder, "target/release/compare", &["--books", "4000", "--damaged", "20000", "--seed", "5"]);
-    let holds = ends_well(folder, "target/release/compare", &["answers", "replay", &list.display().to_string()]);
+    ends_well(folder, "cargo", &BUILD).map_err(|_| "it does not compile".to_string())?;
+    let list = here.join("../crates/replay").display().to_string();
+    let agree = ends_well(folder, "target/release/compare", &RUN)?;
+    let holds = ends_well(folder, "target/release/compare", &["answers", "replay", &list])?;
     Ok((agree, holds))
 }
 
@@ -153,11 +157,11 @@ impl Trial {
 
     /// Prints the sums, and says whether all is as it should be.
     fn sums(self) -> bool {
-        let same = self.all.iter().filter(|m| m.same.is_some()).count();
+        let same = self.all.iter().filter(|m| m.same.is_some()).count() - 1;
         let wrong = self.wrong.into_inner().expect("a list");
         println!(
             "{} mutants, {same} of them no other model, {} found by the list; not as they should be: {}",
-            self.all.len(),
+            self.all.len() - 1,
             self.told.into_inner(),
             wrong.len()
         );
@@ -166,12 +170,15 @@ impl Trial {
     }
 }
 
-fn main() {
+/// Tries the mutants of those names, or all. First a model without an edit has to agree, so that what is found is the
+/// edit.
+pub fn run(wanted: &[String]) -> bool {
     let here = env::current_dir().expect("a folder");
     env::set_var("VEXIL_SRC", source(&here));
-    let wanted: Vec<String> = env::args().skip(1).collect();
     let mut all = mutants(&fs::read_to_string("mutants.txt").expect("mutants.txt"));
     all.retain(|m| wanted.is_empty() || wanted.contains(&m.name));
+    let same = Some("it has no edit".to_string());
+    all.insert(0, Mutant { name: "the model as it is".to_string(), edits: Vec::new(), same });
     let trial = Trial { here, all, next: AtomicUsize::new(0), told: AtomicUsize::new(0), wrong: Mutex::default() };
     std::thread::scope(|s| {
         for n in 0..2 {
@@ -179,5 +186,5 @@ fn main() {
             s.spawn(move || trial.work(n));
         }
     });
-    std::process::exit(!trial.sums() as i32);
+    trial.sums()
 }
