@@ -109,15 +109,16 @@ pub fn names(to: &mut Books) {
         to.add(format!("{name}-wild"), &make().wild(), accepted(results, told[1], 0));
     }
     to.add("ambiguous-name-0", &newtype(|d| ambiguous(d, 0)), accepted(2, 1, 0));
-    to.add("ambiguous-namespace", &newtype(ambiguous_namespace), accepted(2, 1, 0));
+    to.add("ambiguous-namespace", &newtype(|d| ambiguous_namespace(d, 8)), accepted(2, 1, 0));
+    to.add("ambiguous-declared-ns", &newtype(|d| ambiguous_namespace(d, 3)), accepted(2, 0, 0));
     plain_aliases(to);
     copies(to);
 }
 
-/// A namespace name that is ambiguous has no number: message 2, not 0.
-fn ambiguous_namespace(d: &mut Draft) -> u16 {
-    d.ambiguous(8);
-    d.qualified(8, 9)
+/// A namespace name that is ambiguous: one without a number gives message 2, not 0, and one with a number a stub.
+fn ambiguous_namespace(d: &mut Draft, namespace: u16) -> u16 {
+    d.ambiguous(namespace);
+    d.qualified(namespace, 9)
 }
 
 /// A target of a plain alias, and how many results it has.
