@@ -1,0 +1,4 @@
+pub mod Encoding
+pub mod Constraint
+pub mod Constant
+pub mod Bodies

@@ -1,0 +1,152 @@
+-- The kinds of records: their groups, their subs and the values of their fields. Words in quotation marks are document 01's.
+-- Assumes nothing.
+use Prim.Native.Nat.{ℕ, _^_}
+use mathlib.Core.Bool.{Bool, true, false, _&&_, _||_}
+use mathlib.Core.List.{List, [], _∷_, _++_}
+use mathlib.Core.Option.{Option, some, none}
+use lib.Dec.{leb, ltb, eqb}
+use Rattle.book.specs.Lists.{find}
+use Rattle.record.specs.declared.Record.{Record}
+
+-- the headings of document 01's lists of kinds: "Types", "Constants", "Constraints", "Operands", "Declarations", "Items"
+pub data Group : Type 0 where
+  type constant constraint operand declaration item : Group
+
+-- what a field may hold
+pub data Field : Type 0 where
+  unused flag bits name name? string string? ordinal free : Field
+  child child? : Group → Field
+
+-- a field inside its values
+unfoldable pub allows : Field → ℕ → Bool
+-- "Unused fields are zero"
+allows unused x = eqb x 0
+-- "1 for length, else 0", "Bool 0 or 1"
+allows flag x = ltb x 2
+-- "bits 0-255"
+allows bits x = ltb x 256
+-- "Names are 0 to 4,095, strings 0 to 65,534, 65,535 means none where 'or none' is said"
+allows name x = ltb x 4096
+allows name? x = ltb x 4096 || eqb x 65535
+allows string x = ltb x 65535
+allows string? x = true
+-- "Ordinals are below 2^32"
+allows ordinal x = ltb x (2 ^ 32)
+allows free x = true
+-- a number that is no child's is cause 5, not 4
+allows (child g) x = true
+allows (child? g) x = true
+
+-- a row of the table: records of a kind with a sub from `low` to `high`, and their fields; "spans are free"
+pub record Row : Type 0 where
+  pub group : Group
+  pub kind : ℕ
+  pub low : ℕ
+  pub high : ℕ
+  pub a : Field
+  pub b : Field
+  pub c : Field
+  pub v : Field
+
+abbrev pub row : Group → ℕ → ℕ → ℕ → Field → Field → Field → Field → Row
+row g kind low high a b c v =
+    record { group = g; kind = kind; low = low; high = high; a = a; b = b; c = c; v = v }
+
+-- document 01's lists, line by line. A kind stands in several rows where its subs have different fields.
+--           group kind  subs   a                  b                  c                   v
+unfoldable pub table : List Row
+table =
+    row type 1 0 13 unused unused unused unused
+    ∷ row type 2 0 1 bits unused unused unused
+    ∷ row type 3 0 5 unused unused unused unused
+    ∷ row type 4 0 0 name unused unused unused
+    ∷ row type 5 0 0 name name unused unused
+    ∷ row type 6 0 0 name (child type) unused unused
+    ∷ row type 7 0 1 (child type) unused unused unused
+    ∷ row type 7 2 2 (child type) unused unused free
+    ∷ row type 7 3 9 (child type) unused unused unused
+    ∷ row type 8 0 1 (child type) (child type) unused unused
+    ∷ row type 9 0 0 free unused unused unused
+    ∷ row constant 10 0 3 unused unused unused free
+    ∷ row constant 10 4 4 unused unused unused flag
+    ∷ row constant 11 0 0 name unused unused unused
+    ∷ row constant 12 0 9 (child constant) (child constant) unused unused
+    ∷ row constraint 13 0 1 (child constraint) (child constraint) unused unused
+    ∷ row constraint 13 2 2 (child constraint) unused unused unused
+    ∷ row constraint 14 0 5 (child operand) unused flag unused
+    ∷ row constraint 15 0 1 (child operand) (child operand) flag unused
+    ∷ row operand 16 0 1 unused unused unused free
+    ∷ row operand 16 2 2 string unused unused unused
+    ∷ row operand 16 3 3 unused unused unused flag
+    ∷ row operand 16 4 4 unused unused unused free
+    ∷ row operand 16 5 5 name unused unused unused
+    ∷ row declaration 20 0 0 name unused unused unused
+    ∷ row declaration 21 0 0 name unused unused unused
+    ∷ row declaration 22 0 0 name (child type) unused unused
+    ∷ row declaration 23 0 0 name (child type) unused unused
+    ∷ row declaration 24 0 0 name (child type) (child constant) unused
+    ∷ row declaration 25 0 0 name unused unused unused
+    ∷ row item 30 0 0 name unused unused unused
+    ∷ row item 31 0 0 name (child type) (child? constraint) ordinal
+    ∷ row item 32 0 1 unused unused (child? type) ordinal
+    ∷ row item 33 0 0 name unused unused ordinal
+    ∷ row item 34 0 4 unused unused unused unused
+    ∷ row item 35 0 1 name? unused unused free
+    ∷ row item 35 2 2 name? unused unused unused
+    ∷ row item 36 0 2 string? unused unused unused
+    ∷ []
+
+-- the row of a record: its kind, and its sub within the row's
+unfoldable pub rowOf : Record → Option Row
+rowOf r = find (λ w. eqb (r .kind) (w .kind) && leb (w .low) (r .sub) && leb (r .sub) (w .high)) table
+
+abbrev pub fits : Record → Option Row → Bool
+fits r none = false
+fits r (some w) = allows (w .a) (r .a) && allows (w .b) (r .b) && allows (w .c) (r .c) && allows (w .v) (r .v)
+
+-- the record has a row, and every field is inside its values
+unfoldable pub wellShaped : Record → Bool
+wellShaped r = fits r (rowOf r)
+
+-- a child that a record names: its group, and its record number
+pub record Child : Type 0 where
+  pub group : Group
+  pub number : ℕ
+
+-- the child in a field; "65,535 means none where 'or none' is said"
+unfoldable pub childIn : Field → ℕ → List Child
+childIn (child g) x = record { group = g; number = x } ∷ []
+childIn (child? g) x = elim (eqb x 65535) [ true ↦ [] | false ↦ record { group = g; number = x } ∷ [] ]
+childIn unused x = []
+childIn flag x = []
+childIn bits x = []
+childIn name x = []
+childIn name? x = []
+childIn string x = []
+childIn string? x = []
+childIn ordinal x = []
+childIn free x = []
+
+abbrev pub childrenBy : Record → Option Row → List Child
+childrenBy r none = []
+childrenBy r (some w) = childIn (w .a) (r .a) ++ childIn (w .b) (r .b) ++ childIn (w .c) (r .c)
+
+-- the children of a record, left before right
+unfoldable pub children : Record → List Child
+children r = childrenBy r (rowOf r)
+
+abbrev groupNumber : Group → ℕ
+groupNumber type = 1
+groupNumber constant = 2
+groupNumber constraint = 3
+groupNumber operand = 4
+groupNumber declaration = 5
+groupNumber item = 6
+
+abbrev inGroup : Group → Option Row → Bool
+inGroup g none = false
+inGroup g (some w) = eqb (groupNumber g) (groupNumber (w .group))
+
+-- the record is of a group
+unfoldable pub isOf : Group → Record → Bool
+isOf g r = inGroup g (rowOf r)

@@ -1,0 +1,4 @@
+pub mod Expr
+pub mod Eval
+pub mod Order
+pub mod Declared

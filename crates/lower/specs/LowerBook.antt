@@ -1,0 +1,86 @@
+-- The whole: `lowerBook`, from three slices to the reply and what is left in the two lent for writing. Words in quotation marks are document
+-- 01's.
+-- Assumes nothing.
+use Prim.Native.Nat.{ℕ, _*_}
+use mathlib.Core.List.{List, [], _∷_, _++_, flatMap}
+use mathlib.Core.Option.{Option, some, none}
+use lib.ListN.{length, drop, replicate}
+use Rattle.record.specs.declared.Record.{Record}
+use Rattle.record.specs.Layout.{encodeRecord}
+use Rattle.record.specs.Write.{roomFor}
+use Rattle.book.specs.Refusal.{Refusal, number, firstRefusal}
+use Rattle.book.specs.Outline.{Book, read}
+use Rattle.constants.specs.Declared.{settled}
+use Rattle.types.specs.Lowering.{Lowering, Limits, State, Out, finished, stopped, stopNumber, run}
+use Rattle.types.specs.Resolved.{Names}
+use Rattle.types.specs.Step.{_>>_, forEach}
+use Rattle.types.specs.Numbers.{plainAliases, registerDeclarations}
+use Rattle.types.specs.Alias.{lowerAlias}
+use Rattle.bodies.specs.Constant.{lowerConstants, storedCount}
+use Rattle.bodies.specs.Bodies.{lowerBodies}
+
+-- "20-22 numbered from 0, then generic aliases, [..]; plain aliases; constants, [..]; bodies. Each part goes in book order."
+unfoldable pub lowerRecords : Book → Lowering (Unit × Names)
+lowerRecords book =
+    (forEach (lowerAlias book) (plainAliases book) >> lowerConstants book (settled book) >> lowerBodies book)
+    (registerDeclarations book)
+
+-- what a lowering answers
+pub data Reply : Type 0 where
+  -- "the counts of results, diagnostics and stored constants"
+  accepted : ℕ → ℕ → ℕ → Reply
+  -- "Number" and "Returned place"
+  refused : ℕ → ℕ → Reply
+
+-- the reply, and both slices as they are left
+pub record Lowered : Type 0 where
+  pub reply : Reply
+  pub results : List ℕ
+  pub diagnostics : List ℕ
+
+-- "Used limits: result 49,152 bytes and 2,048 records, diagnostics 6,144 bytes and 256 records, or as many whole records as a shorter slice
+-- holds"
+unfoldable pub usedLimits : List ℕ → List ℕ → Limits
+usedLimits results diagnostics =
+    record { results = roomFor 2048 results; diagnostics = roomFor 256 diagnostics }
+
+-- records from the start of a slice on; "leaves bytes past the last record unchanged"
+unfoldable pub withRecords : List Record → List ℕ → List ℕ
+withRecords rs slice = flatMap encodeRecord rs ++ drop (24 * length rs) slice
+
+-- "zero up to its limit in bytes"
+unfoldable pub cleared : ℕ → List ℕ → List ℕ
+cleared limit slice = replicate (24 * limit) 0 ++ drop (24 * limit) slice
+
+-- nothing is written yet, nothing is being lowered
+abbrev pub start : State
+start = record { place = 0; results = []; diagnostics = [] }
+
+-- how a lowering under limits leaves the slices: accepted, or refused by 9 or 10
+unfoldable pub ended : {A : Type 0} → ℕ → Limits → List ℕ → List ℕ → Out A → Lowered
+ended stored most results diagnostics (finished a s) =
+    record {
+      reply = accepted (length (s .results)) (length (s .diagnostics)) stored;
+      results = withRecords (s .results) results;
+      diagnostics = withRecords (s .diagnostics) diagnostics;
+    }
+ended stored most results diagnostics (stopped stop p) =
+    record {
+      reply = refused (stopNumber stop) p;
+      results = cleared (most .results) results;
+      diagnostics = cleared (most .diagnostics) diagnostics;
+    }
+
+-- a book that none of 1 to 8 refuses
+unfoldable pub lowerRead : Book → List ℕ → List ℕ → Lowered
+lowerRead book results diagnostics =
+    let most : Limits = usedLimits results diagnostics in
+    ended (storedCount (settled book)) most results diagnostics (run most (lowerRecords book) start)
+
+-- causes 1 to 8 leave "all" as it was
+unfoldable pub lowerBook : List ℕ → List ℕ → List ℕ → Lowered
+lowerBook book results diagnostics =
+    elim (firstRefusal book) [
+      | some x ↦ record { reply = refused (number (x .cause)) (x .place); results = results; diagnostics = diagnostics }
+      | none ↦ lowerRead (read book) results diagnostics
+    ]

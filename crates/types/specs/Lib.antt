@@ -1,0 +1,6 @@
+pub mod Lowering
+pub mod Resolved
+pub mod Step
+pub mod Numbers
+pub mod Resolve
+pub mod Alias
