@@ -2,7 +2,7 @@
 -- 01's.
 -- Assumes nothing.
 use Prim.Native.Nat.{ℕ, _*_}
-use mathlib.Core.List.{List, [], _∷_, _++_, flatMap}
+use mathlib.Core.List.{List, _++_, flatMap}
 use mathlib.Core.Option.{Option, some, none}
 use lib.ListN.{length, drop, replicate}
 use Rattle.record.specs.declared.Record.{Record}
@@ -11,7 +11,7 @@ use Rattle.record.specs.Write.{roomFor}
 use Rattle.book.specs.Refusal.{Refusal, number, firstRefusal}
 use Rattle.book.specs.Outline.{Book, read}
 use Rattle.constants.specs.Declared.{settled}
-use Rattle.types.specs.Lowering.{Lowering, Limits, State, Out, finished, stopped, stopNumber, run}
+use Rattle.types.specs.Lowering.{Lowering, Limits, Out, start, finished, stopped, stopNumber, run}
 use Rattle.types.specs.Resolved.{Names}
 use Rattle.types.specs.Step.{_>>_, forEach}
 use Rattle.types.specs.Numbers.{plainAliases, registerDeclarations}
@@ -51,10 +51,6 @@ withRecords rs slice = flatMap encodeRecord rs ++ drop (24 * length rs) slice
 -- "zero up to its limit in bytes"
 unfoldable pub cleared : ℕ → List ℕ → List ℕ
 cleared limit slice = replicate (24 * limit) 0 ++ drop (24 * limit) slice
-
--- nothing is written yet, nothing is being lowered
-abbrev pub start : State
-start = record { place = 0; results = []; diagnostics = [] }
 
 -- how a lowering under limits leaves the slices: accepted, or refused by 9 or 10
 unfoldable pub ended : {A : Type 0} → ℕ → Limits → List ℕ → List ℕ → Out A → Lowered

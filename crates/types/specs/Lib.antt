@@ -1,4 +1,5 @@
 pub mod Lowering
+pub mod Events
 pub mod Resolved
 pub mod Step
 pub mod Numbers

@@ -38,6 +38,10 @@ pub record State : Type 0 where
   pub results : List Record
   pub diagnostics : List Record
 
+-- nothing is written yet, nothing is being lowered
+abbrev pub start : State
+start = record { place = 0; results = []; diagnostics = [] }
+
 abbrev pub moved : ℕ → State → State
 moved p s = record { place = p; results = s .results; diagnostics = s .diagnostics }
 
