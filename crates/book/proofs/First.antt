@@ -152,7 +152,7 @@ numbered follow = (refl, lit< tt, lit≤ tt, lit< tt)
 numbered name = (refl, lit< tt, lit≤ tt, lit< tt)
 numbered depth = (refl, lit< tt, lit≤ tt, lit< tt)
 
-same : (x y : Refusal) → placeOf x ≡ placeOf y → numberOf x ≡ numberOf y → x ≡ y
+pub same : (x y : Refusal) → placeOf x ≡ placeOf y → numberOf x ≡ numberOf y → x ≡ y
 same x y p n =
     let c = sym (numbered (x .cause) .0) ∙ ap (λ (k : ℕ). getD causes k length) n ∙ numbered (y .cause) .0 in
     λ i. record { cause = c i; place = p i }

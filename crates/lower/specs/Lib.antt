@@ -1,1 +1,3 @@
 pub mod LowerBook
+pub mod Written
+pub mod Laws

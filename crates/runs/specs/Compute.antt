@@ -2,6 +2,7 @@
 -- Assumes nothing.
 use Prim.Native.Nat.{ℕ}
 use mathlib.Core.List.{List, flatMap}
+use mathlib.Core.Option.{orElse}
 use lib.IntN.{_+ℤ_, _-ℤ_, _*ℤ_, natAbs, negℤ}
 use lib.Signed.{leZ, quotZ}
 use Rattle.record.specs.Bytes.{littleEndian, littleBytes}
@@ -21,7 +22,7 @@ use Rattle.constants.specs.Eval.{store, literalValue, apply, applyTo, evalConst
 use Rattle.constants.specs.Order.{declaredRefs, repeats, admits, ready, orderFrom, order, settle, outcome}
 use Rattle.constants.specs.Declared.{constantAt, constants, settled}
 use Rattle.types.specs.Lowering.{andThen, stopNumber, run}
-use Rattle.types.specs.Resolved.{entry, ownNumber, aliasOf, pairNumber, asNumber, orElse, lookup, withStub, withPair, withAlias}
+use Rattle.types.specs.Resolved.{entry, ownNumber, aliasOf, pairNumber, asNumber, lookup, withStub, withPair, withAlias}
 use Rattle.types.specs.Step.{forEach, emitType, whole, overOne, overTwo, poison}
 use Rattle.types.specs.Numbers.{parameters, genericAliases, plainAliases, typeDeclarations, genericAt, generics}
 use Rattle.types.specs.Numbers.{registerDeclarations}

@@ -3,7 +3,7 @@
 use Prim.Native.Nat.{ℕ, suc, _+_}
 use mathlib.Core.Bool.{Bool, cond, _&&_}
 use mathlib.Core.List.{List, [], _∷_, _++_, map}
-use mathlib.Core.Option.{Option, some, none, Option·map}
+use mathlib.Core.Option.{Option, some, none, Option·map, orElse}
 use lib.Dec.{eqb}
 use Rattle.record.specs.declared.Record.{Record}
 use Rattle.book.specs.Lists.{find}
@@ -63,10 +63,6 @@ asNumber (some (oneChild p v t)) = none
 asNumber (some (twoChildren p l r)) = none
 asNumber (some (inlineBits n)) = none
 asNumber none = none
-
-unfoldable pub orElse : {A : Type 0} → Option A → Option A → Option A
-orElse (some x) y = some x
-orElse none y = y
 
 -- `TypeRegistry::lookup`: "Lookup tries the name's own number, then a plain alias to one; poison counts."
 unfoldable pub lookup : Names → ℕ → Option ℕ

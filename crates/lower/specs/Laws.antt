@@ -1,0 +1,94 @@
+-- What is claimed of `lowerBook`, for every three lists of bytes; the proofs are in proofs/Laws.antt and proofs/Written.antt. Words in quotation
+-- marks are document 01's.
+-- Assumes nothing.
+use Prim.Native.Nat.{ℕ, _*_, _≤_}
+use mathlib.Core.Bool.{true}
+use mathlib.Core.List.{List, map}
+use mathlib.Core.Logic.{_↔_}
+use mathlib.Core.Path.{_≡_}
+use lib.ListN.{length, take, drop, replicate}
+use Rattle.record.specs.declared.Record.{Record}
+use Rattle.record.specs.Bytes.{AreBytes}
+use Rattle.record.specs.Layout.{decodeRecord}
+use Rattle.record.specs.Write.{roomFor}
+use Rattle.book.specs.Lists.{keep, upTo}
+use Rattle.book.specs.Refusal.{Refusal, number}
+use Rattle.book.specs.First.{IsFirst, Holds, hasPlace}
+use Rattle.book.specs.Outline.{read}
+use Rattle.types.specs.Lowering.{Stop, stopNumber}
+use Rattle.types.specs.Events.{Event, events, StopsAt, Fits}
+use Rattle.lower.specs.Written.{isStored}
+use Rattle.lower.specs.LowerBook.{Reply, accepted, refused, Lowered, lowerBook, lowerRecords, usedLimits}
+
+-- a slice as it was from byte n on, and as long as it was
+pub record KeptFrom (n : ℕ) (lent left : List ℕ) : Type 0 where
+  pub same-length : length left ≡ length lent
+  pub rest : drop n left ≡ drop n lent
+
+-- "zero up to its limit in bytes", and past it as it was
+pub record Cleared (limit : ℕ) (lent left : List ℕ) : Type 0 where
+  pub zeros : take (24 * limit) left ≡ replicate (24 * limit) 0
+  pub past : KeptFrom (24 * limit) lent left
+
+-- the first n records of a slice
+unfoldable pub firstRecords : ℕ → List ℕ → List Record
+firstRecords n slice = map (λ i. decodeRecord (drop (24 * i) slice)) (upTo n)
+
+-- what each reply says of the slices: "Left as it was", the used limits, and the counts, which are those of the records in the slices
+unfoldable pub Leaves : List ℕ → List ℕ → Lowered → Reply → Type 0
+Leaves results diagnostics x (accepted r d c) =
+    (r ≤ roomFor 2048 results)
+    × (d ≤ roomFor 256 diagnostics)
+    × KeptFrom (24 * r) results (x .results)
+    × KeptFrom (24 * d) diagnostics (x .diagnostics)
+    × (c ≡ length (keep isStored (firstRecords r (x .results))))
+Leaves results diagnostics x (refused n p) =
+    (n ≤ 8 → (x .results ≡ results) × (x .diagnostics ≡ diagnostics))
+    × (
+    9 ≤ n →
+    Cleared (roomFor 2048 results) results (x .results)
+    × Cleared (roomFor 256 diagnostics) diagnostics (x .diagnostics)
+    )
+
+abbrev pub SlicesAreLeft : Type 0
+SlicesAreLeft =
+    (book results diagnostics : List ℕ) →
+    AreBytes book →
+    Leaves
+    results
+    diagnostics
+    (lowerBook book results diagnostics)
+    ((lowerBook book results diagnostics) .reply)
+
+-- Which reply is given: a refusal exactly if its row holds and no earlier one does. Rows 1 to 8 are told from the book as it lies there, rows 9
+-- and 10 from all that its lowering does, one thing after the other.
+abbrev pub NoRowHolds : List ℕ → Type 0
+NoRowHolds book = (y : Refusal) → hasPlace book (y .cause) (y .place) ≡ true → Holds book y → ⊥
+
+abbrev pub doings : List ℕ → List Event
+doings book = events (lowerRecords (read book)) 0
+
+abbrev pub RefusedByItsRow : Type 0
+RefusedByItsRow =
+    (book results diagnostics : List ℕ) (x : Refusal) →
+    ((lowerBook book results diagnostics) .reply ≡ refused (number (x .cause)) (x .place)) ↔ IsFirst book x
+
+abbrev pub StoppedByItsRow : Type 0
+StoppedByItsRow =
+    (book results diagnostics : List ℕ) (c : Stop) (p : ℕ) →
+    ((lowerBook book results diagnostics) .reply ≡ refused (stopNumber c) p) ↔
+    (NoRowHolds book × StopsAt (usedLimits results diagnostics) (doings book) c p)
+
+-- accepted, whatever the counts
+pub record IsAccepted (x : Lowered) : Type 0 where
+  pub results : ℕ
+  pub diagnostics : ℕ
+  pub constants : ℕ
+  pub reply : x .reply ≡ accepted results diagnostics constants
+
+-- accepted exactly if no row holds
+abbrev pub AcceptedByNone : Type 0
+AcceptedByNone =
+    (book results diagnostics : List ℕ) →
+    IsAccepted (lowerBook book results diagnostics) ↔
+    (NoRowHolds book × Fits (usedLimits results diagnostics) (doings book))
