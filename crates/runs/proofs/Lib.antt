@@ -1,1 +1,3 @@
-pub mod Trial
+pub mod Full
+pub mod Known
+pub mod Slips

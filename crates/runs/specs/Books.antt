@@ -1,6 +1,7 @@
 -- The bytes of a book, from its records.
 -- Assumes nothing.
-use Prim.Native.Nat.{ℕ, zero, suc, _+_, _-_, _*_, _/_, _%_}
+use Prim.Native.Nat.{ℕ, zero, suc, _-_, _*_, _/_, _%_}
+use mathlib.Core.Bool.{Bool, cond}
 use mathlib.Core.List.{List, [], _∷_, _++_, flatMap}
 use lib.ListN.{length, take, drop, replicate}
 use Rattle.record.specs.declared.Record.{Record}
@@ -29,14 +30,11 @@ blocksFrom (suc most) k byte3 [] = []
 blocksFrom (suc most) k byte3 (r ∷ rs) =
     withCheck (blockBytes k byte3 (take 21 (r ∷ rs))) ++ blocksFrom most (suc k) 0 (drop 20 rs)
 
--- a book without wildcard imports, and one with
-abbrev pub bookOf : List Record → List ℕ
-bookOf rs = blocksFrom 64 0 0 rs
+-- the book of some records, with wildcard imports or without
+abbrev pub bookOf : Bool → List Record → List ℕ
+bookOf wildcards rs = blocksFrom 64 0 (cond wildcards 1 0) rs
 
-abbrev pub wildcardBookOf : List Record → List ℕ
-wildcardBookOf rs = blocksFrom 64 0 1 rs
-
--- a record with its span at the given place
-abbrev pub rec : ℕ → ℕ → ℕ → ℕ → ℕ → ℕ → Record
-rec kind sub a b c v =
-    record { kind = kind; sub = sub; a = a; b = b; c = c; v = v; span = record { offset = 0; len = 0 } }
+-- a record by its fields, in the order of its bytes; the last two are its span
+abbrev pub rec : ℕ → ℕ → ℕ → ℕ → ℕ → ℕ → ℕ → ℕ → Record
+rec kind sub a b c v offset len =
+    record { kind = kind; sub = sub; a = a; b = b; c = c; v = v; span = record { offset = offset; len = len } }

@@ -1,2 +1,5 @@
 pub mod Books
 pub mod Compute
+pub mod Claims
+pub mod Known
+pub mod Slips

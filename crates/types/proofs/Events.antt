@@ -101,7 +101,7 @@ record Within (most : Limits) (b : List Event) : Type 0 where
   results : length (written b) ≤ most .results
   diagnostics : length (told b) ≤ most .diagnostics
 
-one-more : {A : Type 0} (l : List A) (x : A) → length (l ++ (x ∷ [])) ≡ suc (length l)
+pub one-more : {A : Type 0} (l : List A) (x : A) → length (l ++ (x ∷ [])) ≡ suc (length l)
 one-more l x = length-append l (x ∷ []) ∙ add-one (length l)
 
 -- one record more: there is room below the limit, or the limit is met
@@ -120,6 +120,27 @@ room-or-met n limit h = by (ltb n limit) refl
         let ge : limit ≤ n = ltb-false n limit e in
         met e (eq-eqb n limit (omega arith))
 
+-- within the limits behind one more event
+module _ (most : Limits) (b : List Event) where
+  within-by : (s : State) (c : List Event) → s ≡ stateOf c → length (s .results) ≤ most .results → length (s .diagnostics) ≤ most .diagnostics → Within most c
+  within-by s c e f g =
+      record {
+        results = subst (λ (x : State). length (x .results) ≤ most .results) e f;
+        diagnostics = subst (λ (x : State). length (x .diagnostics) ≤ most .diagnostics) e g;
+      }
+
+  within-lowers : (p : ℕ) → Within most b → Within most (b ++ (lowers p ∷ []))
+  within-lowers p w = within-by (moved p (stateOf b)) (b ++ (lowers p ∷ [])) (state-lowers b p) (w .results) (w .diagnostics)
+
+  within-resolves : (d : ℕ) → Within most b → Within most (b ++ (resolves d ∷ []))
+  within-resolves d w = within-by (stateOf b) (b ++ (resolves d ∷ [])) (state-resolves b d) (w .results) (w .diagnostics)
+
+  within-tells : (r : Record) → Within most b → suc (length (told b)) ≤ most .diagnostics → Within most (b ++ (tells r ∷ []))
+  within-tells r w h = within-by (withDiagnostic r (stateOf b)) (b ++ (tells r ∷ [])) (state-tells b r) (w .results) (rw (one-more (told b) r) h)
+
+  within-writes : (r : Record) → Within most b → suc (length (written b)) ≤ most .results → Within most (b ++ (writes r ∷ []))
+  within-writes r w h = within-by (withResult r (stateOf b)) (b ++ (writes r ∷ [])) (state-writes b r) (rw (one-more (written b) r) h) (w .diagnostics)
+
 module _ (A : Type 0) (most : Limits) where
   abbrev Agrees : Lowering A → Type 0
   Agrees t =
@@ -129,9 +150,6 @@ module _ (A : Type 0) (most : Limits) where
       all ≡ b ++ events t n →
       Within most b →
       run most t s ≡ outOf (stopOf most b (events t n)) (answer t n) (stateOf all)
-
-  within-same : (b c : List Event) → stateOf b .results ≡ stateOf c .results → stateOf b .diagnostics ≡ stateOf c .diagnostics → Within most b → Within most c
-  within-same b c e f w = record { results = subst (λ l. length l ≤ most .results) e (w .results); diagnostics = subst (λ l. length l ≤ most .diagnostics) f (w .diagnostics) }
 
   after : (b : List Event) (e : Event) (es all : List Event) → all ≡ b ++ (e ∷ es) → all ≡ (b ++ (e ∷ [])) ++ es
   after b e es all h = h ∙ sym (append-assoc b (e ∷ []) es)
@@ -152,7 +170,7 @@ module _ (A : Type 0) (most : Limits) where
       (rw (hs, e))
       (hn ∙ ap (λ (x : State). length (x .results)) e)
       (after b (lowers p) (events t n) all ha)
-      (within-same b (b ++ (lowers p ∷ [])) (ap (λ (x : State). x .results) e) (ap (λ (x : State). x .diagnostics) e) w)
+      (within-lowers most b p w)
 
   agrees-resolving : (d : ℕ) (t : Lowering A) → Agrees t → Agrees (resolving d t)
   unfolding run events answer stopOf over
@@ -171,7 +189,7 @@ module _ (A : Type 0) (most : Limits) where
           (hs ∙ e)
           (hn ∙ ap (λ (x : State). length (x .results)) e)
           (after b (resolves d) (events t n) all ha)
-          (within-same b (b ++ (resolves d ∷ [])) (ap (λ (x : State). x .results) e) (ap (λ (x : State). x .diagnostics) e) w)
+          (within-resolves most b d w)
 
       by : (test : Bool) → ltb 64 d ≡ test → run most (resolving d t) s ≡ outOf (stopOf most b (resolves d ∷ events t n)) (answer t n) (stateOf all)
       by true deep = rw (stop-deep most b (resolves d) (events t n) deep) (step-out most s d t deep ∙ ap (λ (x : State). stopped tooDeep (x .place)) hs)
@@ -197,11 +215,7 @@ module _ (A : Type 0) (most : Limits) where
           e
           (hn ∙ ap (λ (x : State). length (x .results)) e)
           (after b (tells r) (events t n) all ha)
-          (record {
-            results = subst (λ (x : State). length (x .results) ≤ most .results) e (w .results);
-            diagnostics =
-                subst (λ (x : State). length (x .diagnostics) ≤ most .diagnostics) e (rw (one-more (told b) r) more);
-          }))
+          (within-tells most b r w more))
 
   agrees-result : (r : Record) (k : ℕ → Lowering A) → ((n : ℕ) → Agrees (k n)) → Agrees (result r k)
   unfolding run events answer stopOf over
@@ -225,10 +239,7 @@ module _ (A : Type 0) (most : Limits) where
           e
           (ap suc hn ∙ sym (one-more (written b) r) ∙ ap (λ (x : State). length (x .results)) e)
           (after b (writes r) (events (k n) (suc n)) all ha)
-          (record {
-            results = subst (λ (x : State). length (x .results) ≤ most .results) e (rw (one-more (written b) r) more);
-            diagnostics = subst (λ (x : State). length (x .diagnostics) ≤ most .diagnostics) e (w .diagnostics);
-          }))
+          (within-writes most b r w more))
 
   agrees : (t : Lowering A) → Agrees t
   agrees (done a) = agrees-done a
@@ -424,3 +435,35 @@ finished-if-all-fit A most t a s = (λ h. there h (comes most [] (events t 0) (f
 
     back : Fits most (events t 0) × (answer t 0 ≡ a) × (s ≡ stateOf (events t 0)) → run most t start ≡ finished a s
     back x = from-start A most t ∙ ap to (stop-nowhere most [] (events t 0) (x .0)) ∙ rw (x .1, x .2)
+
+-- one event that is not over a limit
+one-within : (most : Limits) (b : List Event) (e : Event) → Within most b → (over full most b e ≡ true → ⊥) → Within most (b ++ (e ∷ []))
+unfolding over
+one-within most b (lowers p) w free = within-lowers most b p w
+one-within most b (resolves d) w free = within-resolves most b d w
+one-within most b (tells r) w free = by (room-or-met (length (told b)) (most .diagnostics) (w .diagnostics))
+  where
+    by : Room (length (told b)) (most .diagnostics) → Within most (b ++ (tells r ∷ []))
+    by (met below-not is-met) = absurd (free is-met)
+    by (room below not-met more) = within-tells most b r w more
+one-within most b (writes r) w free = by (room-or-met (length (written b)) (most .results) (w .results))
+  where
+    by : Room (length (written b)) (most .results) → Within most (b ++ (writes r ∷ []))
+    by (met below-not is-met) = absurd (free is-met)
+    by (room below not-met more) = within-writes most b r w more
+
+all-within : (most : Limits) (b es : List Event) → Within most b → Fits most (b ++ es) → Within most (b ++ es)
+all-within most b [] w f = rw (append-nil b) w
+all-within most b (e ∷ es) w f =
+    let same : b ++ (e ∷ []) ++ es ≡ b ++ (e ∷ es) = append-assoc b (e ∷ []) es in
+    subst
+    (Within most)
+    same
+    (all-within most (b ++ (e ∷ [])) es (one-within most b e w (f full b es e refl)) (subst (Fits most) (sym same) f))
+
+-- all records that fit are within the limits
+pub fits-within : (most : Limits) (es : List Event) → Fits most es → (length (written es) ≤ most .results) × (length (told es) ≤ most .diagnostics)
+unfolding written told
+fits-within most es fits =
+    let w : Within most es = all-within most [] es (record { results = omega arith; diagnostics = omega arith }) fits in
+    (w .results, w .diagnostics)

@@ -1,2 +1,3 @@
 pub mod Run
 pub mod Events
+pub mod Adds

@@ -1,0 +1,177 @@
+-- Which reply is given, and what is left in the slices.
+-- Assumes nothing.
+use Prim.Native.Nat.{ℕ, suc, _+_, _*_, _/_, _≤_, _<_, min}
+use mathlib.Core.Bool.{true, false}
+use mathlib.Core.List.{List, [], _∷_, _++_, flatMap, map}
+use mathlib.Core.Logic.{_↔_}
+use mathlib.Core.Option.{Option, some, none}
+use mathlib.Core.Path.{_≡_, refl, sym, ap, _∙_, subst}
+use native.Mathlib.Omega.{arith}
+use lib.Dec.{lit≤}
+use lib.ListN.{length, take, drop, replicate}
+use Rattle.book.specs.Refusal.{Cause, length as lengthCause, check, block, shape, child, follow, name, depth}
+use Rattle.book.specs.Refusal.{Refusal, number, firstRefusal}
+use Rattle.book.specs.First.{IsFirst}
+use Rattle.book.specs.Outline.{Book, read}
+use Rattle.book.proofs.First.{same, refused-by-the-first, passed-by-all}
+use Rattle.constants.specs.Declared.{settled}
+use Rattle.types.specs.Lowering.{Limits, State, start, Stop, tooDeep, full, stopNumber, Out, finished, stopped, run}
+use Rattle.types.specs.Resolved.{Names}
+use Rattle.types.specs.Events.{events, StopsAt, Fits, answer}
+use Rattle.types.proofs.Events.{stopped-by-the-first, finished-if-all-fit}
+use Rattle.bodies.specs.Constant.{storedCount}
+use Rattle.lower.specs.LowerBook.{Reply, accepted, refused, Lowered, lowerBook, lowerRead, lowerRecords, usedLimits, ended}
+use Rattle.lower.specs.Laws.{NoRowHolds, doings, RefusedByItsRow, StoppedByItsRow, IsAccepted, AcceptedByNone}
+
+-- a reply's number and place; 0 for accepted
+abbrev replyNumber : Reply → ℕ
+replyNumber (accepted r d c) = 0
+replyNumber (refused n p) = n
+
+abbrev replyPlace : Reply → ℕ
+replyPlace (accepted r d c) = 0
+replyPlace (refused n p) = p
+
+pub number-range : (c : Cause) → (1 ≤ number c) × (number c ≤ 8)
+unfolding number
+number-range lengthCause = (lit≤ tt, lit≤ tt)
+number-range check = (lit≤ tt, lit≤ tt)
+number-range block = (lit≤ tt, lit≤ tt)
+number-range shape = (lit≤ tt, lit≤ tt)
+number-range child = (lit≤ tt, lit≤ tt)
+number-range follow = (lit≤ tt, lit≤ tt)
+number-range name = (lit≤ tt, lit≤ tt)
+number-range depth = (lit≤ tt, lit≤ tt)
+
+pub stop-range : (c : Stop) → 9 ≤ stopNumber c
+unfolding stopNumber
+stop-range tooDeep = lit≤ tt
+stop-range full = lit≤ tt
+
+stop-same : (c d : Stop) → stopNumber c ≡ stopNumber d → c ≡ d
+unfolding stopNumber
+stop-same tooDeep tooDeep e = refl
+stop-same tooDeep full e = absurd (omega arith)
+stop-same full tooDeep e = absurd (omega arith)
+stop-same full full e = refl
+
+module _ (book results diagnostics : List ℕ) where
+  abbrev most : Limits
+  most = usedLimits results diagnostics
+
+  abbrev outcome : Out (Unit × Names)
+  outcome = run most (lowerRecords (read book)) start
+
+  pub lower-refused :
+      (x : Refusal) →
+      firstRefusal book ≡ some x →
+      lowerBook book results diagnostics ≡
+      record { reply = refused (number (x .cause)) (x .place); results = results; diagnostics = diagnostics }
+  unfolding lowerBook
+  lower-refused x e = rw (e, lowerBook)
+
+  pub lower-ended :
+      (o : Out (Unit × Names)) →
+      firstRefusal book ≡ none →
+      outcome ≡ o →
+      lowerBook book results diagnostics ≡ ended (storedCount (settled (read book))) most results diagnostics o
+  unfolding lowerBook lowerRead
+  lower-ended o e h = rw (e, lowerBook, h)
+
+  -- the three ways that a book goes: refused by 1 to 8, refused by 9 or 10, accepted
+  data Goes : Type 0 where
+    turned-back : (x : Refusal) → firstRefusal book ≡ some x → Goes
+    stops : (c : Stop) (p : ℕ) → firstRefusal book ≡ none → outcome ≡ stopped c p → Goes
+    ends : (a : Unit × Names) (s : State) → firstRefusal book ≡ none → outcome ≡ finished a s → Goes
+
+  goes : Goes
+  goes = by (firstRefusal book) refl outcome refl
+    where
+      by : (o : Option Refusal) → firstRefusal book ≡ o → (u : Out (Unit × Names)) → outcome ≡ u → Goes
+      by (some x) e u h = turned-back x e
+      by none e (stopped c p) h = stops c p e h
+      by none e (finished a s) h = ends a s e h
+
+  -- the reply of each
+  reply-refused : (x : Refusal) → firstRefusal book ≡ some x → (lowerBook book results diagnostics) .reply ≡ refused (number (x .cause)) (x .place)
+  reply-refused x e = ap (λ (y : Lowered). y .reply) (lower-refused x e)
+
+  reply-stopped : (c : Stop) (p : ℕ) → firstRefusal book ≡ none → outcome ≡ stopped c p → (lowerBook book results diagnostics) .reply ≡ refused (stopNumber c) p
+  unfolding ended
+  reply-stopped c p e h = ap (λ (y : Lowered). y .reply) (lower-ended (stopped c p) e h)
+
+  reply-accepted : (a : Unit × Names) (s : State) → firstRefusal book ≡ none → outcome ≡ finished a s → (lowerBook book results diagnostics) .reply ≡ accepted (length (s .results)) (length (s .diagnostics)) (storedCount (settled (read book)))
+  unfolding ended
+  reply-accepted a s e h = ap (λ (y : Lowered). y .reply) (lower-ended (finished a s) e h)
+
+pub refused-by-its-row : RefusedByItsRow
+refused-by-its-row book results diagnostics x = (λ h. there h (goes book results diagnostics), back)
+  where
+    there : (lowerBook book results diagnostics) .reply ≡ refused (number (x .cause)) (x .place) → Goes book results diagnostics → IsFirst book x
+    there h (turned-back y e) =
+        let is : refused (number (y .cause)) (y .place) ≡ refused (number (x .cause)) (x .place) = sym (reply-refused book results diagnostics y e) ∙ h in
+        refused-by-the-first book x .0 (e ∙ ap some (same y x (ap replyPlace is) (ap replyNumber is)))
+    there h (stops c p e q) =
+        let is : stopNumber c ≡ number (x .cause) = ap replyNumber (sym (reply-stopped book results diagnostics c p e q) ∙ h) in
+        absurd (omega (arith, stop-range c, number-range (x .cause)))
+    there h (ends a s e q) =
+        let is : 0 ≡ number (x .cause) = ap replyNumber (sym (reply-accepted book results diagnostics a s e q) ∙ h) in
+        absurd (omega (arith, number-range (x .cause)))
+
+    back : IsFirst book x → (lowerBook book results diagnostics) .reply ≡ refused (number (x .cause)) (x .place)
+    back f = reply-refused book results diagnostics x (refused-by-the-first book x .1 f)
+
+pub stopped-by-its-row : StoppedByItsRow
+stopped-by-its-row book results diagnostics c p = (λ h. there h (goes book results diagnostics), back)
+  where
+    to : run (usedLimits results diagnostics) (lowerRecords (read book)) start ≡ stopped c p ↔ StopsAt (usedLimits results diagnostics) (doings book) c p
+    to = stopped-by-the-first (Unit × Names) (usedLimits results diagnostics) (lowerRecords (read book)) c p
+
+    there : (lowerBook book results diagnostics) .reply ≡ refused (stopNumber c) p → Goes book results diagnostics → NoRowHolds book × StopsAt (usedLimits results diagnostics) (doings book) c p
+    there h (turned-back y e) =
+        let is : number (y .cause) ≡ stopNumber c = ap replyNumber (sym (reply-refused book results diagnostics y e) ∙ h) in
+        absurd (omega (arith, stop-range c, number-range (y .cause)))
+    there h (stops d q e out) =
+        let is : refused (stopNumber d) q ≡ refused (stopNumber c) p = sym (reply-stopped book results diagnostics d q e out) ∙ h in
+        (passed-by-all book .0 e, to .0 (rw (← stop-same d c (ap replyNumber is), ← ap replyPlace is) out))
+    there h (ends a s e q) =
+        let is : 0 ≡ stopNumber c = ap replyNumber (sym (reply-accepted book results diagnostics a s e q) ∙ h) in
+        absurd (omega (arith, stop-range c))
+
+    back : NoRowHolds book × StopsAt (usedLimits results diagnostics) (doings book) c p → (lowerBook book results diagnostics) .reply ≡ refused (stopNumber c) p
+    back x = reply-stopped book results diagnostics c p (passed-by-all book .1 (x .0)) (to .1 (x .1))
+
+pub accepted-by-none : AcceptedByNone
+accepted-by-none book results diagnostics = (λ x. there x (goes book results diagnostics), back)
+  where
+    there : IsAccepted (lowerBook book results diagnostics) → Goes book results diagnostics → NoRowHolds book × Fits (usedLimits results diagnostics) (doings book)
+    there x (turned-back y e) =
+        let is : number (y .cause) ≡ 0 = ap replyNumber (sym (reply-refused book results diagnostics y e) ∙ x .reply) in
+        absurd (omega (arith, number-range (y .cause)))
+    there x (stops c p e q) =
+        let is : stopNumber c ≡ 0 = ap replyNumber (sym (reply-stopped book results diagnostics c p e q) ∙ x .reply) in
+        absurd (omega (arith, stop-range c))
+    there x (ends a s e q) = (
+      passed-by-all book .0 e,
+      finished-if-all-fit (Unit × Names) (usedLimits results diagnostics) (lowerRecords (read book)) a s .0 q .0,
+    )
+
+    back : NoRowHolds book × Fits (usedLimits results diagnostics) (doings book) → IsAccepted (lowerBook book results diagnostics)
+    back x = by (goes book results diagnostics)
+      where
+        by : Goes book results diagnostics → IsAccepted (lowerBook book results diagnostics)
+        by (turned-back y e) = absurd (x .0 y (is-first .there) (is-first .holds))
+          where
+            is-first : IsFirst book y
+            is-first = refused-by-the-first book y .0 e
+        by (stops c p e q) = absurd (x .1 c (at .before) (at .rest) (at .event) (at .split) (at .holds))
+          where
+            at : StopsAt (usedLimits results diagnostics) (doings book) c p
+            at = stopped-by-the-first (Unit × Names) (usedLimits results diagnostics) (lowerRecords (read book)) c p .0 q
+        by (ends a s e q) =
+            record {
+              results = length (s .results);
+              diagnostics = length (s .diagnostics);
+              constants = storedCount (settled (read book));
+              reply = reply-accepted book results diagnostics a s e q;
+            }
