@@ -9,6 +9,10 @@ use mathlib.Core.Path.{_≡_, refl, sym, ap, _∙_, subst}
 use native.Mathlib.Omega.{arith}
 use lib.Dec.{lit≤}
 use lib.ListN.{length, take, drop, replicate}
+use Rattle.record.specs.declared.Record.{Record}
+use Rattle.record.specs.Bytes.{AreBytes}
+use Rattle.record.specs.Write.{roomFor}
+use Rattle.book.specs.Lists.{keep}
 use Rattle.book.specs.Refusal.{Cause, length as lengthCause, check, block, shape, child, follow, name, depth}
 use Rattle.book.specs.Refusal.{Refusal, number, firstRefusal}
 use Rattle.book.specs.First.{IsFirst}
@@ -17,10 +21,13 @@ use Rattle.book.proofs.First.{same, refused-by-the-first, passed-by-all}
 use Rattle.constants.specs.Declared.{settled}
 use Rattle.types.specs.Lowering.{Limits, State, start, Stop, tooDeep, full, stopNumber, Out, finished, stopped, run}
 use Rattle.types.specs.Resolved.{Names}
-use Rattle.types.specs.Events.{events, StopsAt, Fits, answer}
-use Rattle.types.proofs.Events.{stopped-by-the-first, finished-if-all-fit}
+use Rattle.types.specs.Events.{events, written, StopsAt, Fits}
+use Rattle.types.proofs.Events.{stopped-by-the-first, finished-if-all-fit, fits-within}
 use Rattle.bodies.specs.Constant.{storedCount}
 use Rattle.lower.specs.LowerBook.{Reply, accepted, refused, Lowered, lowerBook, lowerRead, lowerRecords, usedLimits, ended}
+use Rattle.lower.specs.Written.{isStored, WrittenWithin, StoredAreCounted}
+use Rattle.lower.specs.Laws.{Leaves, SlicesAreLeft}
+use Rattle.lower.proofs.Slices.{room-in-bytes, records-kept, is-cleared, read-back}
 use Rattle.lower.specs.Laws.{NoRowHolds, doings, RefusedByItsRow, StoppedByItsRow, IsAccepted, AcceptedByNone}
 
 -- a reply's number and place; 0 for accepted
@@ -175,3 +182,55 @@ accepted-by-none book results diagnostics = (λ x. there x (goes book results di
               constants = storedCount (settled (read book));
               reply = reply-accepted book results diagnostics a s e q;
             }
+
+-- what is left in the slices, from what is claimed of the records that are written
+module _ (written-within : WrittenWithin) (stored-are-counted : StoredAreCounted) (book results diagnostics : List ℕ) where
+  abbrev Left : Lowered → Type 0
+  Left x = Leaves results diagnostics x (x .reply)
+
+  left-refused : (x : Refusal) → Left (record { reply = refused (number (x .cause)) (x .place); results = results; diagnostics = diagnostics })
+  unfolding Leaves
+  left-refused x = (λ h. (refl, refl), λ h. absurd (omega (arith, number-range (x .cause))))
+
+  left-stopped : (c : Stop) (p : ℕ) → Left (ended {A = Unit × Names} (storedCount (settled (read book))) (usedLimits results diagnostics) results diagnostics (stopped c p))
+  unfolding Leaves ended usedLimits
+  left-stopped c p = (
+    λ h. absurd (omega (arith, stop-range c)),
+    λ h. (
+      is-cleared (roomFor 2048 results) results (room-in-bytes 2048 results (roomFor 2048 results) (omega arith)),
+      is-cleared (roomFor 256 diagnostics) diagnostics (room-in-bytes 256 diagnostics (roomFor 256 diagnostics) (omega arith)),
+    ),
+  )
+
+  left-accepted :
+      AreBytes book →
+      firstRefusal book ≡ none →
+      (a : Unit × Names) (s : State) →
+      run (usedLimits results diagnostics) (lowerRecords (read book)) start ≡ finished a s →
+      Left (ended (storedCount (settled (read book))) (usedLimits results diagnostics) results diagnostics (finished a s))
+  unfolding Leaves ended usedLimits
+  left-accepted bytes e a s h =
+      let fit = finished-if-all-fit (Unit × Names) (usedLimits results diagnostics) (lowerRecords (read book)) a s .0 h in
+      let in-limits = fits-within (usedLimits results diagnostics) (doings book) (fit .0) in
+      let r : length (s .results) ≤ roomFor 2048 results = rw (fit .2) (in-limits .0) in
+      let d : length (s .diagnostics) ≤ roomFor 256 diagnostics = rw (fit .2) (in-limits .1) in
+      let within = written-within book (usedLimits results diagnostics) a s bytes e (omega arith) h in
+      let same : s .results ≡ written (doings book) = ap (λ (x : State). x .results) (fit .2) in (
+        r,
+        d,
+        records-kept (s .results) results (room-in-bytes 2048 results (length (s .results)) r),
+        records-kept (s .diagnostics) diagnostics (room-in-bytes 256 diagnostics (length (s .diagnostics)) d),
+        sym (stored-are-counted (read book))
+            ∙ ap (λ (l : List Record). length (keep isStored l)) (sym same ∙ sym (read-back (s .results) results (within .0))),
+      )
+
+  left : AreBytes book → Left (lowerBook book results diagnostics)
+  left bytes = by (goes book results diagnostics)
+    where
+      by : Goes book results diagnostics → Left (lowerBook book results diagnostics)
+      by (turned-back x e) = subst Left (sym (lower-refused book results diagnostics x e)) (left-refused x)
+      by (stops c p e h) = subst Left (sym (lower-ended book results diagnostics (stopped c p) e h)) (left-stopped c p)
+      by (ends a s e h) = subst Left (sym (lower-ended book results diagnostics (finished a s) e h)) (left-accepted bytes e a s h)
+
+pub slices-by : WrittenWithin → StoredAreCounted → SlicesAreLeft
+slices-by w c book results diagnostics bytes = left w c book results diagnostics bytes
