@@ -53,47 +53,47 @@ row g kind low high a b c v =
     record { group = g; kind = kind; low = low; high = high; a = a; b = b; c = c; v = v }
 
 -- document 01's lists, line by line. A kind stands in several rows where its subs have different fields.
---           group kind  subs   a                  b                  c                   v
+-- A row: group, kind, first and last sub, then what a, b, c and v may hold.
 unfoldable pub table : List Row
 table =
-    row type 1 0 13 unused unused unused unused
-    ∷ row type 2 0 1 bits unused unused unused
-    ∷ row type 3 0 5 unused unused unused unused
-    ∷ row type 4 0 0 name unused unused unused
-    ∷ row type 5 0 0 name name unused unused
-    ∷ row type 6 0 0 name (child type) unused unused
-    ∷ row type 7 0 1 (child type) unused unused unused
-    ∷ row type 7 2 2 (child type) unused unused free
-    ∷ row type 7 3 9 (child type) unused unused unused
-    ∷ row type 8 0 1 (child type) (child type) unused unused
-    ∷ row type 9 0 0 free unused unused unused
-    ∷ row constant 10 0 3 unused unused unused free
-    ∷ row constant 10 4 4 unused unused unused flag
-    ∷ row constant 11 0 0 name unused unused unused
-    ∷ row constant 12 0 9 (child constant) (child constant) unused unused
-    ∷ row constraint 13 0 1 (child constraint) (child constraint) unused unused
-    ∷ row constraint 13 2 2 (child constraint) unused unused unused
-    ∷ row constraint 14 0 5 (child operand) unused flag unused
-    ∷ row constraint 15 0 1 (child operand) (child operand) flag unused
-    ∷ row operand 16 0 1 unused unused unused free
-    ∷ row operand 16 2 2 string unused unused unused
-    ∷ row operand 16 3 3 unused unused unused flag
-    ∷ row operand 16 4 4 unused unused unused free
-    ∷ row operand 16 5 5 name unused unused unused
-    ∷ row declaration 20 0 0 name unused unused unused
-    ∷ row declaration 21 0 0 name unused unused unused
-    ∷ row declaration 22 0 0 name (child type) unused unused
-    ∷ row declaration 23 0 0 name (child type) unused unused
-    ∷ row declaration 24 0 0 name (child type) (child constant) unused
-    ∷ row declaration 25 0 0 name unused unused unused
-    ∷ row item 30 0 0 name unused unused unused
-    ∷ row item 31 0 0 name (child type) (child? constraint) ordinal
-    ∷ row item 32 0 1 unused unused (child? type) ordinal
-    ∷ row item 33 0 0 name unused unused ordinal
-    ∷ row item 34 0 4 unused unused unused unused
-    ∷ row item 35 0 1 name? unused unused free
-    ∷ row item 35 2 2 name? unused unused unused
-    ∷ row item 36 0 2 string? unused unused unused
+    row type 1 0 13 unused unused unused unused  -- primitive
+    ∷ row type 2 0 1 bits unused unused unused  -- sub-byte
+    ∷ row type 3 0 5 unused unused unused unused  -- semantic
+    ∷ row type 4 0 0 name unused unused unused  -- named
+    ∷ row type 5 0 0 name name unused unused  -- qualified
+    ∷ row type 6 0 0 name (child type) unused unused  -- generic
+    ∷ row type 7 0 1 (child type) unused unused unused  -- Optional, Array
+    ∷ row type 7 2 2 (child type) unused unused free  -- FixedArray
+    ∷ row type 7 3 9 (child type) unused unused unused  -- Set, Vec2 to Mat4
+    ∷ row type 8 0 1 (child type) (child type) unused unused  -- Map, Result
+    ∷ row type 9 0 0 free unused unused unused  -- inline bits
+    ∷ row constant 10 0 3 unused unused unused free  -- Int, UInt, Float, Hex
+    ∷ row constant 10 4 4 unused unused unused flag  -- Bool
+    ∷ row constant 11 0 0 name unused unused unused  -- reference
+    ∷ row constant 12 0 9 (child constant) (child constant) unused unused  -- operation
+    ∷ row constraint 13 0 1 (child constraint) (child constraint) unused unused  -- And, Or
+    ∷ row constraint 13 2 2 (child constraint) unused unused unused  -- Not
+    ∷ row constraint 14 0 5 (child operand) unused flag unused  -- comparison
+    ∷ row constraint 15 0 1 (child operand) (child operand) flag unused  -- range
+    ∷ row operand 16 0 1 unused unused unused free  -- Int, Float
+    ∷ row operand 16 2 2 string unused unused unused  -- String
+    ∷ row operand 16 3 3 unused unused unused flag  -- Bool
+    ∷ row operand 16 4 4 unused unused unused free  -- Value
+    ∷ row operand 16 5 5 name unused unused unused  -- reference
+    ∷ row declaration 20 0 0 name unused unused unused  -- message
+    ∷ row declaration 21 0 0 name unused unused unused  -- union
+    ∷ row declaration 22 0 0 name (child type) unused unused  -- newtype
+    ∷ row declaration 23 0 0 name (child type) unused unused  -- alias
+    ∷ row declaration 24 0 0 name (child type) (child constant) unused  -- constant
+    ∷ row declaration 25 0 0 name unused unused unused  -- ambiguous name
+    ∷ row item 30 0 0 name unused unused unused  -- type parameter
+    ∷ row item 31 0 0 name (child type) (child? constraint) ordinal  -- field
+    ∷ row item 32 0 1 unused unused (child? type) ordinal  -- tombstone
+    ∷ row item 33 0 0 name unused unused ordinal  -- variant
+    ∷ row item 34 0 4 unused unused unused unused  -- annotation
+    ∷ row item 35 0 1 name? unused unused free  -- argument: Int, Hex
+    ∷ row item 35 2 2 name? unused unused unused  -- argument: other
+    ∷ row item 36 0 2 string? unused unused unused  -- tombstone argument
     ∷ []
 
 -- the row of a record: its kind, and its sub within the row's

@@ -10,11 +10,15 @@ use Rattle.lower.specs.LowerBook.{Lowered, Reply, accepted, refused}
 use Rattle.runs.specs.Compute.{computed}
 use Rattle.runs.specs.Claims.{standsAt, behindField}
 use Rattle.runs.specs.Known.{leaving, Answered}
-use Rattle.runs.specs.Slips.{unknownHead, deltaAndBool, deltaAndUnion, AnswersBeside, Slip, NotSo, NoSlip}
+use Rattle.runs.specs.Slips.{castSeen, unknownHead, deltaAndBool, deltaAndUnion, AnswersBeside, Slip, NotSo, NoSlip}
 use Rattle.runs.specs.Slips.{squareStored, innerSubstituted, headStubbed, headStubbedThenLookedAt}
 use Rattle.runs.specs.Slips.{deltaOnBool, deltaOnUnion, dividedDown}
 use Rattle.runs.proofs.Full.{lowerFull}
 use Rattle.runs.proofs.Known.{_&_, answered, k5-answered, k6-answered, k10-answered}
+
+cast-seen-answered : Answered castSeen
+unfolding computed lowerFull standsAt behindField
+cast-seen-answered = answered castSeen refl (λ results diagnostics. refl) (refl & refl & refl & tt)
 
 unknown-head-answered : Answered unknownHead
 unfolding computed lowerFull standsAt behindField
@@ -29,7 +33,7 @@ unfolding computed lowerFull standsAt behindField
 delta-and-union-answered = answered deltaAndUnion refl (λ results diagnostics. refl) (refl & refl & tt)
 
 pub answers-beside : AnswersBeside
-answers-beside = unknown-head-answered & delta-and-bool-answered & delta-and-union-answered & tt
+answers-beside = cast-seen-answered & unknown-head-answered & delta-and-bool-answered & delta-and-union-answered & tt
 
 -- the numbers of a reply, and behind an accepting one the bytes of the records counted
 abbrev counted : Lowered → Reply → List ℕ

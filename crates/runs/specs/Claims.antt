@@ -4,10 +4,10 @@ use Prim.Native.Nat.{ℕ}
 use mathlib.Core.Bool.{Bool, true, false, _&&_}
 use mathlib.Core.List.{List, [], _∷_}
 use lib.Dec.{eqb}
-use lib.IntN.{ℤ, pos, negℤ}
+use lib.IntN.{ℤ, pos, negsuc, negℤ}
 use lib.ListN.{take}
 use Rattle.record.specs.declared.Record.{Record}
-use Rattle.arith.specs.Word.{word}
+use Rattle.arith.specs.Word.{signed}
 use Rattle.book.specs.Lists.{keep}
 use Rattle.book.specs.Faults.{recordOf, isKind}
 
@@ -32,9 +32,16 @@ nobody (r ∷ rs) = false
 abbrev pub minus : ℕ → ℤ
 minus n = negℤ (pos n)
 
--- the constant n is stored with a value: "41 reached constant (sub 1 stored, a, b type, v value or 0)", v being the 64 bits of the value
+abbrev pub sameInteger : ℤ → ℤ → Bool
+sameInteger (pos m) (pos n) = eqb m n
+sameInteger (pos m) (negsuc n) = false
+sameInteger (negsuc m) (pos n) = false
+sameInteger (negsuc m) (negsuc n) = eqb m n
+
+-- the constant n is stored with a value: "41 reached constant (sub 1 stored, a, b type, v value or 0)", v being read as an i64
 abbrev pub stored : ℕ → ℤ → Claim
-stored n z results diagnostics = theOne (λ r. eqb (r .sub) 1 && eqb (r .v) (word z)) (naming 41 n results)
+stored n z results diagnostics =
+    theOne (λ r. eqb (r .sub) 1 && sameInteger (signed (r .v)) z) (naming 41 n results)
 
 -- "reached without a value gives message 5"
 abbrev pub withoutValue : ℕ → Claim

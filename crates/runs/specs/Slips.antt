@@ -1,5 +1,5 @@
--- Document 01's "Slips we've seen proposed", each with the records that it would give, and the books beside K1 to K12 that they need.
--- Records stand as in Known.antt. Words in quotation marks are document 01's.
+-- Document 01's "Slips we've seen proposed", each with the records that it would give, and the books beside K1 to K12 that they
+-- need. Records stand as in Known.antt. Words in quotation marks are document 01's.
 -- Assumes nothing.
 use Prim.Native.Nat.{ℕ}
 use mathlib.Core.Bool.{true, false}
@@ -10,7 +10,7 @@ use lib.ListN.{length}
 use Rattle.record.specs.declared.Record.{Record}
 use Rattle.lower.specs.LowerBook.{Reply, accepted, lowerBook}
 use Rattle.runs.specs.Books.{bookOf, rec}
-use Rattle.runs.specs.Claims.{Claim, minus, stored, oneMessage, newtypeOver, u8, number, arrayOf, poison}
+use Rattle.runs.specs.Claims.{Claim, minus, stored, oneMessage, noMessage, newtypeOver, u8, number, arrayOf, poison}
 use Rattle.runs.specs.Claims.{default, varint, deltaOver, isDelta, noDelta}
 use Rattle.runs.specs.Known.{Known, All, leaving, Answered, N1, N2, N3, none, k5, k6, k10}
 
@@ -23,6 +23,32 @@ N5 = 5
 
 abbrev pub Foo : ℕ
 Foo = 9
+
+-- K3's 64 bits are those of the UInt as well. N2 = N1 ÷ 2 shows the cast, -9223372036854775808 ÷ 2: "UInt and Hex cast to i64".
+abbrev pub castSeen : Known
+castSeen =
+    record {
+      wildcards = false;
+      book =
+          rec 10 1 0 0 0 9223372036854775808 100 1  -- 0: UInt 9223372036854775808
+          ∷ rec 1 1 0 0 0 0 110 2  -- 1: u8
+          ∷ rec 24 0 N1 1 0 0 120 3  -- 2: constant N1: type 1, expression 0
+          ∷ rec 11 0 N1 0 0 0 130 4  -- 3: reference to N1
+          ∷ rec 10 0 0 0 0 2 140 5  -- 4: Int 2
+          ∷ rec 12 3 3 4 0 0 150 6  -- 5: Div: record 3, record 4
+          ∷ rec 1 1 0 0 0 0 160 7  -- 6: u8
+          ∷ rec 24 0 N2 6 5 0 170 8  -- 7: constant N2: type 6, expression 5
+          ∷ [];
+      reply = accepted 4 0 2;
+      results =
+          rec 1 1 0 0 0 0 0 0  -- 0: u8
+          ∷ rec 41 1 N1 0 0 9223372036854775808 120 3  -- 1: constant N1: stored, type 0
+          ∷ rec 1 1 0 0 0 0 0 0  -- 2: u8
+          ∷ rec 41 1 N2 2 0 13835058055282163712 170 8  -- 3: constant N2: stored, type 2
+          ∷ [];
+      diagnostics = [];
+      says = stored N1 (minus 9223372036854775808) ∷ stored N2 (minus 4611686018427387904) ∷ noMessage ∷ [];
+    }
 
 -- Foo of u8 where wildcard imports exist and nothing is called Foo. "Generic: no number gives message 4"; poison.
 abbrev pub unknownHead : Known
@@ -104,9 +130,9 @@ deltaAndUnion =
     }
 
 abbrev pub beside : List Known
-beside = unknownHead ∷ deltaAndBool ∷ deltaAndUnion ∷ []
+beside = castSeen ∷ unknownHead ∷ deltaAndBool ∷ deltaAndUnion ∷ []
 
--- their right answers, claimed as those of K1 to K12 are. The proof is in proofs/Slips.antt.
+-- their answers, claimed as those of K1 to K12 are. The proof is in proofs/Slips.antt.
 abbrev pub AnswersBeside : Type 0
 AnswersBeside = All Answered beside
 
