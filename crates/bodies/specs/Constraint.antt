@@ -24,6 +24,7 @@ pub data WhereExpr : Type 0 where
 abbrev lowerWhereOperand : Record → WhereExpr
 lowerWhereOperand r = cond (eqb (r .sub) 4) (operand 0 0 0) (operand (r .sub) (r .a) (r .v))
 
+-- the constraint or operand that a record is, by its kind
 unfoldable pub whereExpr : Record → WhereExpr
 whereExpr r =
     cond (isKind 13 r && eqb (r .sub) 2) (not (r .a))

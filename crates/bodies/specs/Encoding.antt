@@ -82,6 +82,7 @@ deltaInner (oneChild p v t) = notEligible
 deltaInner (twoChildren p l r) = notEligible
 deltaInner (inlineBits n) = notEligible
 
+-- an encoding under a message's delta
 abbrev withDelta : Inner → FieldEncoding → FieldEncoding
 withDelta notEligible e = e
 withDelta hadBefore e = record { encoding = e .encoding; delta = true; limit = e .limit }
@@ -95,11 +96,13 @@ underDelta messageDelta t e = cond (messageDelta && notYet (e .delta)) (withDelt
     notYet true = false
     notYet false = true
 
+-- "sub 0 default, 1 varint, 2 zigzag"
 unfoldable pub encodingNumber : Encoding → ℕ
 encodingNumber default = 0
 encodingNumber varint = 1
 encodingNumber zigzag = 2
 
+-- 1 for yes
 abbrev bit : Bool → ℕ
 bit true = 1
 bit false = 0

@@ -14,6 +14,7 @@ use Rattle.book.specs.Lists.{any, upTo}
 unfoldable pub lengthFault : List ℕ → Bool
 lengthFault book = eqb (length book) 0 || ltb 32768 (length book) || not (eqb (length book % 512) 0)
 
+-- "blocks of 512 bytes"
 abbrev pub blocks : List ℕ → ℕ
 blocks book = length book / 512
 
@@ -25,6 +26,7 @@ block book k = drop (512 * k) book
 abbrev pub recordsIn : List ℕ → ℕ → ℕ
 recordsIn book k = getD (block book k) 2 0
 
+-- block k is the last
 abbrev last : List ℕ → ℕ → Bool
 last book k = eqb (k + 1) (blocks book)
 

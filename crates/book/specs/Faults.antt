@@ -45,6 +45,7 @@ childFault rs n =
 unfoldable pub before : List Record → ℕ → List Record
 before rs n = reverse (keep (λ r. ltb 16 (r .kind)) (take n rs))
 
+-- the record is of kind k
 abbrev pub isKind : ℕ → Record → Bool
 isKind k r = eqb (r .kind) k
 

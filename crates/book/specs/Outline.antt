@@ -10,10 +10,12 @@ use Rattle.book.specs.Lists.{any, keep, keepWhile, from, upTo}
 use Rattle.book.specs.Blocks.{records, wildcards}
 use Rattle.book.specs.Faults.{recordOf, isKind, isDeclaration}
 
+-- the records, and whether "wildcard imports exist"
 pub record Book : Type 0 where
   pub records : List Record
   pub wildcards : Bool
 
+-- the book that some bytes are; it means something where none of causes 1 to 8 refuses them
 unfoldable pub read : List ℕ → Book
 read bytes = record { records = records bytes; wildcards = wildcards bytes }
 

@@ -41,6 +41,7 @@ pub record Refusal : Type 0 where
   pub cause : Cause
   pub place : ℕ
 
+-- a cause at a place, written short
 abbrev pub at : Cause → ℕ → Refusal
 at c p = record { cause = c; place = p }
 

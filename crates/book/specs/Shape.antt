@@ -48,6 +48,7 @@ pub record Row : Type 0 where
   pub c : Field
   pub v : Field
 
+-- a row, written short
 abbrev pub row : Group → ℕ → ℕ → ℕ → Field → Field → Field → Field → Row
 row g kind low high a b c v =
     record { group = g; kind = kind; low = low; high = high; a = a; b = b; c = c; v = v }
@@ -100,6 +101,7 @@ table =
 unfoldable pub rowOf : Record → Option Row
 rowOf r = find (λ w. eqb (r .kind) (w .kind) && leb (w .low) (r .sub) && leb (r .sub) (w .high)) table
 
+-- every field inside the values of its row
 abbrev pub fits : Record → Option Row → Bool
 fits r none = false
 fits r (some w) = allows (w .a) (r .a) && allows (w .b) (r .b) && allows (w .c) (r .c) && allows (w .v) (r .v)
@@ -127,6 +129,7 @@ childIn string? x = []
 childIn ordinal x = []
 childIn free x = []
 
+-- the children that a row says
 abbrev pub childrenBy : Record → Option Row → List Child
 childrenBy r none = []
 childrenBy r (some w) = childIn (w .a) (r .a) ++ childIn (w .b) (r .b) ++ childIn (w .c) (r .c)
@@ -135,6 +138,7 @@ childrenBy r (some w) = childIn (w .a) (r .a) ++ childIn (w .b) (r .b) ++ childI
 unfoldable pub children : Record → List Child
 children r = childrenBy r (rowOf r)
 
+-- groups by number, to compare them
 abbrev groupNumber : Group → ℕ
 groupNumber type = 1
 groupNumber constant = 2
@@ -143,6 +147,7 @@ groupNumber operand = 4
 groupNumber declaration = 5
 groupNumber item = 6
 
+-- the row is of a group
 abbrev inGroup : Group → Option Row → Bool
 inGroup g none = false
 inGroup g (some w) = eqb (groupNumber g) (groupNumber (w .group))

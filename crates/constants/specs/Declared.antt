@@ -13,6 +13,7 @@ unfoldable pub constantAt : Book → ℕ → Constant
 constantAt book n =
     record { place = n; name = (book ! n) .a; expr = exprAt 64 (book .records) ((book ! n) .c) }
 
+-- the declared constants, in book order
 unfoldable pub constants : Book → List Constant
 constants book = map (constantAt book) (numbersOf (isKind 24) book)
 

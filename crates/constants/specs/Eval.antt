@@ -51,6 +51,7 @@ applyTo o none y = none
 applyTo o (some x) none = none
 applyTo o (some x) (some y) = apply o x y
 
+-- the value of an expression over the values of names; a name that has none gives none
 unfoldable pub evalConstExpr : Table → Expr → Option ℤ
 evalConstExpr t (literal l v) = literalValue l v
 evalConstExpr t (reference n) = t n

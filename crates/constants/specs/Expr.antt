@@ -15,6 +15,7 @@ pub data Literal : Type 0 where
 pub data Op : Type 0 where
   add sub mul div eq ne lt le gt ge : Op
 
+-- an expression as a tree: "their trees agree at every place in kind, sub, v and referenced name" is equality here
 pub data Expr : Type 0 where
   -- its 64 bits
   literal : Literal → ℕ → Expr
@@ -22,9 +23,11 @@ pub data Expr : Type 0 where
   reference : ℕ → Expr
   operation : Op → Expr → Expr → Expr
 
+-- a literal by its sub
 abbrev pub literalOf : ℕ → Literal
 literalOf s = getD (int ∷ uint ∷ float ∷ hex ∷ bool ∷ []) s bool
 
+-- an operation by its sub
 abbrev pub opOf : ℕ → Op
 opOf s = getD (add ∷ sub ∷ mul ∷ div ∷ eq ∷ ne ∷ lt ∷ le ∷ gt ∷ ge ∷ []) s ge
 

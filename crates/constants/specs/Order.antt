@@ -23,6 +23,7 @@ pub record Constant : Type 0 where
 pub data Way : Type 0 where
   each once : Way
 
+-- a name is among some
 abbrev pub has : ℕ → List ℕ → Bool
 has n ns = any (λ m. eqb m n) ns
 
@@ -34,6 +35,7 @@ declares cs n = any (λ c. eqb (c .name) n) cs
 unfoldable pub declaredRefs : List Constant → Constant → List ℕ
 declaredRefs cs c = keep (declares cs) (refs (c .expr))
 
+-- some name comes twice
 unfoldable pub repeats : List ℕ → Bool
 repeats [] = false
 repeats (n ∷ ns) = elim (has n ns) [ true ↦ true | false ↦ repeats ns ]
@@ -65,6 +67,7 @@ orderFrom zero w cs done = []
 orderFrom (suc most) w cs done =
     elim (find (ready w cs done) cs) [ none ↦ [] | some c ↦ c ∷ orderFrom most w cs (c .name ∷ done) ]
 
+-- the order in which the reached constants are done: each comes at most once
 unfoldable pub order : Way → List Constant → List Constant
 order w cs = orderFrom (length cs) w cs []
 

@@ -50,6 +50,7 @@ Leaves results diagnostics x (refused n p) =
     × Cleared (roomFor 256 diagnostics) diagnostics (x .diagnostics)
     )
 
+-- what is left is what the reply says, for every book of bytes and every two slices
 abbrev pub SlicesAreLeft : Type 0
 SlicesAreLeft =
     (book results diagnostics : List ℕ) →
@@ -65,14 +66,17 @@ SlicesAreLeft =
 abbrev pub NoRowHolds : List ℕ → Type 0
 NoRowHolds book = (y : Refusal) → hasPlace book (y .cause) (y .place) ≡ true → Holds book y → ⊥
 
+-- all that the lowering of a book would do if nothing stopped it
 abbrev pub doings : List ℕ → List Event
 doings book = events (lowerRecords (read book)) 0
 
+-- causes 1 to 8
 abbrev pub RefusedByItsRow : Type 0
 RefusedByItsRow =
     (book results diagnostics : List ℕ) (x : Refusal) →
     ((lowerBook book results diagnostics) .reply ≡ refused (number (x .cause)) (x .place)) ↔ IsFirst book x
 
+-- causes 9 and 10
 abbrev pub StoppedByItsRow : Type 0
 StoppedByItsRow =
     (book results diagnostics : List ℕ) (c : Stop) (p : ℕ) →

@@ -116,6 +116,7 @@ pub record Adds {A : Type 0} (most : Limits) (t : Lowering A) (s : State) (a : A
   pub results-within : length (s .results) ≤ most .results → length (s′ .results) ≤ most .results
   pub diagnostics-within : length (s .diagnostics) ≤ most .diagnostics → length (s′ .diagnostics) ≤ most .diagnostics
 
+-- every lowering that finishes does
 abbrev pub FinishedAdds : Type 1
 FinishedAdds =
     (A : Type 0) (most : Limits) (t : Lowering A) (s : State) (a : A) (s′ : State) →
@@ -126,6 +127,7 @@ unfoldable pub goOn : {A B : Type 0} → Out A → (A → State → Out B) → O
 goOn (finished a s) f = f a s
 goOn (stopped c p) f = stopped c p
 
+-- to run one after the other is to go on from where the first ended
 abbrev pub RunsInTurn : Type 1
 RunsInTurn =
     (A B : Type 0) (most : Limits) (t : Lowering A) (f : A → Lowering B) (s : State) →

@@ -42,13 +42,16 @@ pub record State : Type 0 where
 abbrev pub start : State
 start = record { place = 0; results = []; diagnostics = [] }
 
+-- another declaration or item is being lowered
 abbrev pub moved : ℕ → State → State
 moved p s = record { place = p; results = s .results; diagnostics = s .diagnostics }
 
+-- one more result
 abbrev pub withResult : Record → State → State
 withResult r s =
     record { place = s .place; results = s .results ++ (r ∷ []); diagnostics = s .diagnostics }
 
+-- one more diagnostic
 abbrev pub withDiagnostic : Record → State → State
 withDiagnostic r s =
     record { place = s .place; results = s .results; diagnostics = s .diagnostics ++ (r ∷ []) }

@@ -16,12 +16,15 @@ use Rattle.types.specs.Resolved.{Names}
 unfoldable pub parameters : Book → ℕ → List ℕ
 parameters book n = map (λ r. r .a) (keep (isKind 30) (notes book n))
 
+-- an alias with a type parameter is generic, another one plain
 abbrev isGeneric : Book → ℕ → Bool
 isGeneric book n = any (isKind 30) (notes book n)
 
+-- the record numbers of the generic aliases, in book order
 unfoldable pub genericAliases : Book → List ℕ
 genericAliases book = keep (isGeneric book) (numbersOf (isKind 23) book)
 
+-- and of the plain ones
 unfoldable pub plainAliases : Book → List ℕ
 plainAliases book = keep (λ n. not (isGeneric book n)) (numbersOf (isKind 23) book)
 
@@ -34,6 +37,7 @@ pub record Generic : Type 0 where
   pub parameter : ℕ
   pub target : ℕ
 
+-- "Only the first parameter is replaced"
 unfoldable pub genericAt : Book → ℕ → Generic
 genericAt book n = record { parameter = first (parameters book n); target = (book ! n) .b }
   where

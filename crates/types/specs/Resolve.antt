@@ -26,6 +26,7 @@ pub data TypeExpr : Type 0 where
   one : ℕ → ℕ → ℕ → TypeExpr
   two : ℕ → ℕ → ℕ → TypeExpr
 
+-- the type that a record is, by its kind
 unfoldable pub typeExpr : Record → TypeExpr
 typeExpr r =
     cond (isKind 1 r) (plain (primitive (r .sub)))
@@ -50,16 +51,20 @@ firstOf [] d = d
 firstOf (some x ∷ xs) d = x
 firstOf (none ∷ xs) d = firstOf xs d
 
+-- what is there, under a condition
 abbrev onlyIf : {A : Type 0} → Bool → Option A → Option A
 onlyIf true x = x
 onlyIf false x = none
 
+-- a type number as what is found
 abbrev numbered : Option ℕ → Option Found
 numbered k = Option·map (λ n. type (named n)) k
 
+-- "declared 20-22"
 abbrev pub isDeclared : Book → ℕ → Bool
 isDeclared book n = any (λ r. isOneOf (20 ∷ 21 ∷ 22 ∷ []) r && eqb (r .a) n) (book .records)
 
+-- "25 name ambiguous between wildcard imports"
 abbrev pub isAmbiguous : Book → ℕ → Bool
 isAmbiguous book n = any (λ r. isKind 25 r && eqb (r .a) n) (book .records)
 
@@ -76,11 +81,13 @@ findName book n s =
     ∷ [])
     (unresolved 1)
 
+-- a name by what it is found to be
 abbrev asFound : ℕ → Span → Found → Step Resolved
 asFound n span (type t) s = whole t s
 asFound n span stub s = whole (named (s .next)) (withStub n s)
 asFound n span (unresolved m) s = poison m n 0 0 span s
 
+-- `TypeExpr::Named`
 unfoldable pub resolveName : Book → ℕ → Span → Step Resolved
 resolveName book n span s = asFound n span (findName book n s) s
 
@@ -89,11 +96,13 @@ unfoldable pub findQualified : ℕ → ℕ → Names → Found
 findQualified space n s =
     firstOf (numbered (pairNumber s space n) ∷ Option·map (λ k. stub) (lookup s space) ∷ []) (unresolved 2)
 
+-- a qualified name by what it is found to be; "in message 2 namespace and b name"
 abbrev asFoundPair : ℕ → ℕ → Span → Found → Step Resolved
 asFoundPair space n span (type t) s = whole t s
 asFoundPair space n span stub s = whole (named (s .next)) (withPair space n s)
 asFoundPair space n span (unresolved m) s = poison m space n 0 span s
 
+-- `TypeExpr::Qualified`
 unfoldable pub resolveQualified : ℕ → ℕ → Span → Step Resolved
 resolveQualified space n span s = asFoundPair space n span (findQualified space n s) s
 

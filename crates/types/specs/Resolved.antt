@@ -8,6 +8,7 @@ use lib.Dec.{eqb}
 use Rattle.record.specs.declared.Record.{Record}
 use Rattle.book.specs.Lists.{find}
 
+-- "types 1-3, 7-9; 4 with type number in v"
 pub data ResolvedType : Type 0 where
   -- its sub
   primitive : ℕ → ResolvedType
@@ -43,6 +44,7 @@ pub record Names : Type 0 where
 unfoldable pub entry : {A : Type 0} → ℕ → List (ℕ × A) → Option A
 entry n l = Option·map (λ x. x .1) (find (λ x. eqb (x .0) n) l)
 
+-- "the name's own number"
 unfoldable pub ownNumber : Names → ℕ → Option ℕ
 ownNumber s n = entry n (s .numbers)
 
@@ -50,6 +52,7 @@ ownNumber s n = entry n (s .numbers)
 unfoldable pub aliasOf : Names → ℕ → Option ResolvedType
 aliasOf s n = entry n (s .aliases)
 
+-- "known pair"
 unfoldable pub pairNumber : Names → ℕ → ℕ → Option ℕ
 pairNumber s space n = Option·map (λ x. x .1) (find (λ x. eqb (x .0 .0) space && eqb (x .0 .1) n) (s .pairs))
 
@@ -88,6 +91,7 @@ withPair space n s =
       aliases = s .aliases;
     }
 
+-- a plain alias that is lowered
 unfoldable pub withAlias : ℕ → ResolvedType → Names → Names
 withAlias n t s =
     record {

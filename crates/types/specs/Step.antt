@@ -8,17 +8,21 @@ use Rattle.types.specs.Lowering.{Lowering, done, lowering, diagnostic, r
 use Rattle.types.specs.Resolved.{ResolvedType, primitive, subByte, semantic, named, oneChild, twoChildren, inlineBits}
 use Rattle.types.specs.Resolved.{Names, POISON}
 
+-- a lowering from the names so far, with the names behind it
 abbrev pub Step : Type 0 → Type 0
 Step A = Names → Lowering (A × Names)
 
 infixl 20 _>>=_
 infixl 20 _>>_
+-- one step after the other
 abbrev pub _>>=_ : {A B : Type 0} → Step A → (A → Step B) → Step B
 _>>=_ m f s = andThen (m s) (λ x. f (x .0) (x .1))
 
+-- the same where the first gives nothing of use
 abbrev pub _>>_ : {A B : Type 0} → Step A → Step B → Step B
 _>>_ m k s = andThen (m s) (λ x. k (x .1))
 
+-- an answer, and nothing else
 abbrev pub give : {A : Type 0} → A → Step A
 give a s = done (a, s)
 
@@ -34,6 +38,7 @@ emit r s = result r (λ n. done (n, s))
 abbrev pub tell : Record → Step Unit
 tell r s = diagnostic r (done (tt, s))
 
+-- the names change
 abbrev pub change : (Names → Names) → Step Unit
 change f s = done (tt, f s)
 
@@ -71,6 +76,7 @@ unfoldable pub overOne : ℕ → ℕ → Resolved → Step Resolved
 overOne p size t =
     emit (bare 7 p (t .root) 0 0 size) >>= λ n. give (record { root = n; type = oneChild p size (t .type) })
 
+-- the same over two
 unfoldable pub overTwo : ℕ → Resolved → Resolved → Step Resolved
 overTwo p l r =
     emit (bare 8 p (l .root) (r .root) 0 0)
