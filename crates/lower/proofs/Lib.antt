@@ -1,2 +1,3 @@
 pub mod Slices
 pub mod Laws
+pub mod Written
