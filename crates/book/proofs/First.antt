@@ -14,7 +14,7 @@ use lib.ListN.{getD}
 use borrow.Author.Tests.{ltb-true, eqb-true, lt-ltb, le-ltb, eq-eqb, ne-eqb}
 use Rattle.book.specs.Lists.{find, from}
 use Rattle.book.specs.Blocks.{blocks, recordCount, records}
-use Rattle.book.specs.Refusal.{Cause, length, check, block, shape, child, follow, name, depth}
+use Rattle.book.specs.Refusal.{Cause, bookLength, check, block, shape, child, follow, name, depth}
 use Rattle.book.specs.Refusal.{Refusal, at, number, faulty, inOrder, firstRefusal}
 use Rattle.book.specs.First.{hasPlace, part, earlier, IsFirst, RefusedByTheFirst, PassedByAll}
 
@@ -137,13 +137,13 @@ high : ℕ → ℕ
 high q = getD (2 ∷ 4 ∷ 9 ∷ []) q 0
 
 causes : List Cause
-causes = length ∷ length ∷ check ∷ block ∷ shape ∷ child ∷ follow ∷ name ∷ depth ∷ []
+causes = bookLength ∷ bookLength ∷ check ∷ block ∷ shape ∷ child ∷ follow ∷ name ∷ depth ∷ []
 
 numbered :
     (c : Cause) →
-    (getD causes (number c) length ≡ c) × (part c < 3) × (low (part c) ≤ number c) × (number c < high (part c))
+    (getD causes (number c) bookLength ≡ c) × (part c < 3) × (low (part c) ≤ number c) × (number c < high (part c))
 unfolding causes low high part number
-numbered length = (refl, lit< tt, lit≤ tt, lit< tt)
+numbered bookLength = (refl, lit< tt, lit≤ tt, lit< tt)
 numbered check = (refl, lit< tt, lit≤ tt, lit< tt)
 numbered block = (refl, lit< tt, lit≤ tt, lit< tt)
 numbered shape = (refl, lit< tt, lit≤ tt, lit< tt)
@@ -154,7 +154,7 @@ numbered depth = (refl, lit< tt, lit≤ tt, lit< tt)
 
 pub same : (x y : Refusal) → placeOf x ≡ placeOf y → numberOf x ≡ numberOf y → x ≡ y
 same x y p n =
-    let c = sym (numbered (x .cause) .0) ∙ ap (λ (k : ℕ). getD causes k length) n ∙ numbered (y .cause) .0 in
+    let c = sym (numbered (x .cause) .0) ∙ ap (λ (k : ℕ). getD causes k bookLength) n ∙ numbered (y .cause) .0 in
     λ i. record { cause = c i; place = p i }
 
 neither-earlier : (x y : Refusal) → (earlier x y ≡ true → ⊥) → (earlier y x ≡ true → ⊥) → x ≡ y
@@ -176,7 +176,7 @@ module _ (book : List ℕ) where
 
   has-place : (c : Cause) (p : ℕ) → (hasPlace book c p ≡ true) ↔ (p < places (part c))
   unfolding hasPlace places part
-  has-place length p = (λ e. omega (arith, eqb-true), λ less. eq-eqb p 0 (omega arith))
+  has-place bookLength p = (λ e. omega (arith, eqb-true), λ less. eq-eqb p 0 (omega arith))
   has-place check p = below
   has-place block p = below
   has-place shape p = below
@@ -238,7 +238,7 @@ module _ (book : List ℕ) where
       (λ x h t. (h, omega arith, omega (arith, numbered (x .cause))))
       (append holds earlier partOf up 0 2 3 _ _ (lit≤ tt) (lit≤ tt)
       (append holds earlier partOf up 0 1 2 _ _ (lit≤ tt) (lit≤ tt)
-      (whole 0 _ (one-more length _ (no-more 0)))
+      (whole 0 _ (one-more bookLength _ (no-more 0)))
       (whole 1 _ (one-more check _ (one-more block _ (no-more 1)))))
       (whole 2 _ (one-more shape _ (one-more child _ (one-more follow _ (one-more name _ (one-more depth _ (no-more 2))))))))
     where

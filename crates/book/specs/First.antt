@@ -8,12 +8,12 @@ use mathlib.Core.Option.{some, none}
 use mathlib.Core.Path.{_≡_}
 use lib.Dec.{ltb, eqb}
 use Rattle.book.specs.Blocks.{blocks, recordCount, records}
-use Rattle.book.specs.Refusal.{Cause, length, check, block, shape, child, follow, name, depth}
+use Rattle.book.specs.Refusal.{Cause, bookLength, check, block, shape, child, follow, name, depth}
 use Rattle.book.specs.Refusal.{Refusal, number, faulty, firstRefusal}
 
 -- "Returned place": 0, a block of the book, or a record of the book
 unfoldable pub hasPlace : List ℕ → Cause → ℕ → Bool
-hasPlace book length p = eqb p 0
+hasPlace book bookLength p = eqb p 0
 hasPlace book check k = ltb k (blocks book)
 hasPlace book block k = ltb k (blocks book)
 hasPlace book shape n = ltb n (recordCount book)
@@ -28,7 +28,7 @@ Holds book x = faulty book (records book) (x .cause) (x .place) ≡ true
 
 -- the length, the blocks, the records
 unfoldable pub part : Cause → ℕ
-part length = 0
+part bookLength = 0
 part check = 1
 part block = 1
 part shape = 2

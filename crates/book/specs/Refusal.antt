@@ -12,11 +12,11 @@ use Rattle.book.specs.Faults.{shapeFault, childFault, followFault, nameF
 
 -- the rows 1 to 8 of the table "When a book is turned back"
 pub data Cause : Type 0 where
-  length check block shape child follow name depth : Cause
+  bookLength check block shape child follow name depth : Cause
 
 -- "Number"
 unfoldable pub number : Cause → ℕ
-number length = 1
+number bookLength = 1
 number check = 2
 number block = 3
 number shape = 4
@@ -27,7 +27,7 @@ number depth = 8
 
 -- the row holds at a place: of a book, whose records are `rs`
 unfoldable pub faulty : List ℕ → List Record → Cause → ℕ → Bool
-faulty book rs length p = lengthFault book
+faulty book rs bookLength p = lengthFault book
 faulty book rs check k = not (checkHolds book k)
 faulty book rs block k = blockFault book k
 faulty book rs shape n = shapeFault rs n
@@ -48,7 +48,7 @@ at c p = record { cause = c; place = p }
 -- "Order: 1; blocks upward, 2 before 3; records upward, 4 to 8 within each"
 unfoldable pub inOrder : List ℕ → List Refusal
 inOrder book =
-    at length 0
+    at bookLength 0
     ∷ flatMap (λ k. at check k ∷ at block k ∷ []) (upTo (blocks book))
     ++ flatMap
     (λ n. at shape n ∷ at child n ∷ at follow n ∷ at name n ∷ at depth n ∷ [])

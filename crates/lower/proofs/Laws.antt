@@ -13,7 +13,7 @@ use Rattle.record.specs.declared.Record.{Record}
 use Rattle.record.specs.Bytes.{AreBytes}
 use Rattle.record.specs.Write.{roomFor}
 use Rattle.book.specs.Lists.{keep}
-use Rattle.book.specs.Refusal.{Cause, length as lengthCause, check, block, shape, child, follow, name, depth}
+use Rattle.book.specs.Refusal.{Cause, bookLength, check, block, shape, child, follow, name, depth}
 use Rattle.book.specs.Refusal.{Refusal, number, firstRefusal}
 use Rattle.book.specs.First.{IsFirst}
 use Rattle.book.specs.Outline.{Book, read}
@@ -41,7 +41,7 @@ replyPlace (refused n p) = p
 
 pub number-range : (c : Cause) → (1 ≤ number c) × (number c ≤ 8)
 unfolding number
-number-range lengthCause = (lit≤ tt, lit≤ tt)
+number-range bookLength = (lit≤ tt, lit≤ tt)
 number-range check = (lit≤ tt, lit≤ tt)
 number-range block = (lit≤ tt, lit≤ tt)
 number-range shape = (lit≤ tt, lit≤ tt)
