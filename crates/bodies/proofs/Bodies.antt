@@ -6,8 +6,7 @@ use mathlib.Core.List.{List, [], _∷_}
 use mathlib.Core.Option.{Option, some, none}
 use mathlib.Core.Path.{_≡_, refl}
 use native.Mathlib.Omega.{arith}
-use lib.Dec.{eqb, ltb, lit<}
-use lib.ListN.{drop}
+use lib.Dec.{eqb, lit<}
 use Rattle.record.specs.declared.Record.{Record}
 use Rattle.record.specs.Layout.{Within}
 use Rattle.book.specs.Lists.{find}
@@ -18,11 +17,12 @@ use Rattle.types.specs.Events.{writes}
 use Rattle.types.specs.Resolved.{ResolvedType}
 use Rattle.types.specs.Step.{Step, give}
 use Rattle.types.specs.Numbers.{typeDeclarations}
-use Rattle.types.proofs.Steps.{Below, Fine, Keeps, Right, keeps-give, keeps-at, keeps-emit, keeps-then, keeps-next, keeps-each}
+use Rattle.types.proofs.Steps.{Below, Fine, Keeps, keeps-give, keeps-at, keeps-emit, keeps-then, keeps-next, keeps-each}
 use Rattle.types.proofs.Resolving.{within, keeps-type}
 use Rattle.bodies.specs.Constraint.{WhereExpr, andOr, not, compare, range, operand, whereExpr, lowerWhereBy, lowerWhereExpr}
 use Rattle.bodies.specs.Encoding.{Encoding, default, varint, zigzag, FieldEncoding, Inner, notEligible, hadBefore, over}
-use Rattle.bodies.specs.Encoding.{hasAnnotation, isKeylessNumber, limitIn, computeFieldEncoding, deltaInner, underDelta, encodingNumber, encodingRecord}
+use Rattle.bodies.specs.Encoding.{isKeylessNumber, limitIn, computeFieldEncoding}
+use Rattle.bodies.specs.Encoding.{deltaInner, underDelta, encodingNumber, encodingRecord}
 use Rattle.bodies.specs.Bodies.{unlessNone, lowerField, firstString, lowerTombstone, lowerVariant, lowerItem}
 use Rattle.bodies.specs.Bodies.{lowerMessage, lowerUnion, lowerNewtype, lowerDecl, lowerBodies}
 
@@ -45,8 +45,8 @@ sized-where r w =
 
 module _ {W S : Type 0} where
   keeps-where-by :
-      (child : ℕ → Step ℕ) → ((a : ℕ) → Keeps W S (Below W S) (child a)) →
-      (e : WhereExpr) → (W → SizedWhere e) → Keeps W S (Below W S) (lowerWhereBy child e)
+      (child : ℕ → Step ℕ) → ((a : ℕ) → Keeps W S (Below W) (child a)) →
+      (e : WhereExpr) → (W → SizedWhere e) → Keeps W S (Below W) (lowerWhereBy child e)
   unfolding lowerWhereBy
   keeps-where-by child c (andOr p a b) h =
       keeps-then (c a) (λ l q. keeps-then (c b) (λ r y. keeps-emit _ (λ s. refl, λ w. omega (arith, h w, q w, y w))))
@@ -57,7 +57,7 @@ module _ {W S : Type 0} where
   keeps-where-by child c (operand p a v) h = keeps-emit _ (λ s. refl, λ w. omega (arith, h w))
 
   keeps-where :
-      (levels : ℕ) (book : Book) → (W → All Within (book .records)) → (n : ℕ) → Keeps W S (Below W S) (lowerWhereExpr levels book n)
+      (levels : ℕ) (book : Book) → (W → All Within (book .records)) → (n : ℕ) → Keeps W S (Below W) (lowerWhereExpr levels book n)
   unfolding lowerWhereExpr
   keeps-where zero book given n = keeps-give 0 (λ w. lit< tt)
   keeps-where (suc levels) book given n =
@@ -110,11 +110,12 @@ module _ {W S : Type 0} where
       go none p q = rw p (λ c. refl, λ w. omega (arith, encoding-below (e .encoding), bit-below (e .delta)))
       go (some v) p q = rw p (λ c. refl, λ w. omega (arith, q w, encoding-below (e .encoding), bit-below (e .delta)))
 
-  keeps-unless : (n : ℕ) (m : Step ℕ) → Keeps W S (Below W S) m → Keeps W S (Below W S) (unlessNone n m)
+  -- what a field refers to
+  keeps-unless : (n : ℕ) (m : Step ℕ) → Keeps W S (Below W) m → Keeps W S (Below W) (unlessNone n m)
   unfolding unlessNone
   keeps-unless n m k = go (eqb n 65535)
     where
-      go : (b : Bool) → Keeps W S (Below W S) (λ s. elim b [ true ↦ give 65535 s | false ↦ m s ])
+      go : (b : Bool) → Keeps W S (Below W) (λ s. elim b [ true ↦ give 65535 s | false ↦ m s ])
       go true = keeps-give 65535 (λ w. lit< tt)
       go false = k
 
@@ -135,6 +136,7 @@ string-below key ns h = go (find test ns) refl (if-find Within test ns h)
     go (some r) e q = rw e (q .a)
 
 module _ {W S : Type 0} (book : Book) (given : W → All Within (book .records)) where
+  -- items
   keeps-field : (b : Bool) (n : ℕ) → Keeps W S (λ x. Unit) (lowerField book b n)
   unfolding lowerField computeFieldEncoding
   keeps-field b n =
@@ -175,6 +177,7 @@ module _ {W S : Type 0} (book : Book) (given : W → All Within (book .records))
       (either (Keeps W S (λ x. Unit)) (isKind 31 (book ! n)) (keeps-field b n)
       (either (Keeps W S (λ x. Unit)) (isKind 32 (book ! n)) (keeps-tombstone n) (keeps-variant n)))
 
+  -- declarations
   keeps-message : (n : ℕ) → Keeps W S (λ x. Unit) (lowerMessage book n)
   unfolding lowerMessage
   keeps-message n =

@@ -1,7 +1,6 @@
 -- The records of reached constants: within their widths, if the book's are and the values are words; as many marked stored as have a value.
 -- Assumes nothing.
-use Prim.Native.Nat.{ℕ, suc, _+_, _^_, _<_}
-use mathlib.Core.Bool.{false}
+use Prim.Native.Nat.{ℕ, _+_, _^_, _<_}
 use mathlib.Core.List.{List, [], _∷_}
 use mathlib.Core.Option.{Option, some, none}
 use mathlib.Core.Path.{_≡_, refl}
@@ -9,11 +8,11 @@ use native.Mathlib.Omega.{arith}
 use lib.IntN.{ℤ}
 use Rattle.record.specs.declared.Record.{Record}
 use Rattle.record.specs.Layout.{Within}
-use Rattle.arith.specs.Word.{word}
 use Rattle.book.specs.Lists.{keep}
 use Rattle.book.specs.Outline.{Book, _!_}
-use Rattle.book.proofs.Lists.{All, If}
+use Rattle.book.proofs.Lists.{All}
 use Rattle.constants.specs.Order.{Settled}
+use Rattle.constants.proofs.Values.{IsWord}
 use Rattle.types.specs.Lowering.{andThen}
 use Rattle.types.specs.Events.{writes, events, written}
 use Rattle.types.specs.Step.{_>>_, emit, give}
@@ -22,10 +21,7 @@ use Rattle.types.proofs.Counts.{Stores, stores-then, stores-after}
 use Rattle.types.proofs.Resolving.{within, keeps-type}
 use Rattle.bodies.specs.Constant.{tellUnless, constantRecord, lowerConstant, lowerConstants, storedCount}
 
--- a value that is a word
-abbrev pub IsWord : Settled → Type 0
-IsWord c = If (λ z. word z < 2 ^ 64) (c .value)
-
+-- within their widths, where it is not asked that no 41 is marked stored
 module _ {W S : Type 0} where
   keeps-tell-unless : (o : Option ℤ) (r : Record) → (W → Within r) → Keeps W S (λ x. Unit) (tellUnless o r)
   unfolding tellUnless
@@ -33,14 +29,14 @@ module _ {W S : Type 0} where
   keeps-tell-unless none r h = keeps-tell r h
 
   fine-constant :
-      (o : Option ℤ) (r : Record) (type : ℕ) → (S → ⊥) → (W → If (λ z. word z < 2 ^ 64) o × Within r × (type < 2 ^ 16)) →
+      (o : Option ℤ) (r : Record) (type : ℕ) → (S → ⊥) → (W → IsWord o × Within r × (type < 2 ^ 16)) →
       Fine W S (writes (constantRecord o r type))
   unfolding constantRecord
   fine-constant (some z) r type no-s h = (λ s. absurd (no-s s), λ w. omega (arith, h w))
   fine-constant none r type no-s h = (λ s. refl, λ w. omega (arith, h w))
 
 module _ {W S : Type 0} (book : Book) (given : W → All Within (book .records)) where
-  keeps-constant : (S → ⊥) → (c : Settled) → (W → IsWord c) → Keeps W S (λ x. Unit) (lowerConstant book c)
+  keeps-constant : (S → ⊥) → (c : Settled) → (W → IsWord (c .value)) → Keeps W S (λ x. Unit) (lowerConstant book c)
   unfolding lowerConstant
   keeps-constant no-s c h =
       let n = c .constant .place in
@@ -54,7 +50,8 @@ module _ {W S : Type 0} (book : Book) (given : W → All Within (book .records))
       (keeps-emit _ (fine-constant (c .value) r (t .root) no-s (λ w. (h w, within book given n w, q w .0))))
       (keeps-give tt tt))))
 
-  pub keeps-constants : (S → ⊥) → (cs : List Settled) → (W → All IsWord cs) → Keeps W S (λ x. Unit) (lowerConstants book cs)
+  pub keeps-constants :
+      (S → ⊥) → (cs : List Settled) → (W → All (λ c. IsWord (c .value)) cs) → Keeps W S (λ x. Unit) (lowerConstants book cs)
   unfolding lowerConstants
   keeps-constants no-s [] h = keeps-give tt tt
   keeps-constants no-s (c ∷ cs) h = keeps-next (keeps-constant no-s c (λ w. h w .0)) (keeps-constants no-s cs (λ w. h w .1))
@@ -64,7 +61,9 @@ abbrev worth : Option ℤ → ℕ
 worth none = 0
 worth (some z) = 1
 
-stores-record : (o : Option ℤ) (m r : Record) (type : ℕ) → Stores {A = Unit} (worth o) (tellUnless o m >> (emit (constantRecord o r type) >> give tt))
+stores-record :
+    (o : Option ℤ) (m r : Record) (type : ℕ) →
+    Stores {A = Unit} (worth o) (tellUnless o m >> (emit (constantRecord o r type) >> give tt))
 unfolding tellUnless constantRecord andThen events written keep
 stores-record none m r type = record { so-many = λ s n. refl }
 stores-record (some z) m r type = record { so-many = λ s n. refl }

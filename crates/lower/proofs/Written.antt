@@ -1,47 +1,49 @@
--- What holds of the records that a lowering writes.
+-- No step beyond the 65th, records within their widths, and as many 41s marked stored as there are values.
 -- Assumes nothing.
 use Prim.Native.Nat.{ℕ, suc, _^_, _≤_, _<_}
-use mathlib.Core.List.{List, [], _∷_, _++_}
-use mathlib.Core.Path.{_≡_, refl, _∙_, subst}
+use mathlib.Core.List.{List, [], _∷_}
+use mathlib.Core.Path.{refl, ap, _∙_, subst}
 use native.Mathlib.Omega.{arith}
 use lib.ListN.{length}
+use Rattle.record.specs.declared.Record.{Record}
 use Rattle.record.specs.Layout.{Within}
-use Rattle.book.specs.Outline.{Book}
+use Rattle.book.specs.Blocks.{records}
+use Rattle.book.specs.Outline.{Book, read}
 use Rattle.book.proofs.Lists.{All}
+use Rattle.book.proofs.Records.{records-within, few-records}
 use Rattle.constants.specs.Declared.{settled}
-use Rattle.types.specs.Events.{Event, resolves, events, written}
-use Rattle.types.specs.Step.{_>>_, forEach}
+use Rattle.constants.proofs.Values.{IsWord, settled-word}
+use Rattle.types.specs.Lowering.{start}
+use Rattle.types.specs.Events.{Event, lowers, resolves, tells, writes, events, written, told}
+use Rattle.types.specs.Resolved.{Names}
 use Rattle.types.specs.Numbers.{plainAliases, registerDeclarations}
-use Rattle.types.specs.Alias.{lowerAlias}
-use Rattle.types.proofs.Does.{Does, all-events, all-split}
-use Rattle.types.proofs.Steps.{Sound, Below, Fine, Keeps, keeps-next, keeps-each}
+use Rattle.types.proofs.Does.{all-events, all-split}
+use Rattle.types.proofs.Steps.{Sound, Below, Fine, keeps-next, keeps-each}
+use Rattle.types.proofs.Adds.{finished-adds}
+use Rattle.types.proofs.Start.{start-sound}
 use Rattle.types.proofs.Counts.{stores-then, stores-none, stores-after}
 use Rattle.types.proofs.Resolving.{keeps-alias}
-use Rattle.bodies.specs.Constant.{lowerConstants}
-use Rattle.bodies.specs.Bodies.{lowerBodies}
-use Rattle.bodies.proofs.Constant.{IsWord, keeps-constants, stores-constants}
+use Rattle.bodies.proofs.Constant.{keeps-constants, stores-constants}
 use Rattle.bodies.proofs.Bodies.{keeps-bodies}
 use Rattle.lower.specs.LowerBook.{lowerRecords}
-use Rattle.lower.specs.Written.{NoStepBeyond, StoredAreCounted}
+use Rattle.lower.specs.Written.{All as Each, NoStepBeyond, StoredAreCounted, WrittenWithin}
 
--- all that is done for a book: within widths where the book's records and the constants' values are, and the numbers of its declarations
+-- of all that is done for a book. Where W is given, its records, the values of its constants and the names of its declarations are within
+-- their widths, and so are the numbers of results.
 all-fine :
     (W : Type 0) (book : Book) →
-    (W → All Within (book .records) × All IsWord (settled book) × Sound (registerDeclarations book) 0) →
+    (W → All Within (book .records) × All (λ c. IsWord (c .value)) (settled book) × Sound (registerDeclarations book) 0) →
     ((m : ℕ) → suc m ≤ length (written (events (lowerRecords book) 0)) → W → m < 2 ^ 16) →
     All (Fine W ⊥) (events (lowerRecords book) 0)
 unfolding lowerRecords
 all-fine W book given below =
-    all-events (Below W ⊥) (Fine W ⊥) _ (lowerRecords book) 0 (λ m l. below m (omega arith))
-    (keeps .does (registerDeclarations book) 0 (λ w. given w .2))
-  where
-    keeps : Keeps W ⊥ (λ x. Unit) (λ s. (forEach (lowerAlias book) (plainAliases book) >> lowerConstants book (settled book) >> lowerBodies book) s)
-    keeps =
-        keeps-next
-        (keeps-next
-        (keeps-each _ (keeps-alias book (λ w. given w .0)) _)
-        (keeps-constants book (λ w. given w .0) (λ s. s) (settled book) (λ w. given w .1)))
-        (keeps-bodies book (λ w. given w .0))
+    all-events (Below W) (Fine W ⊥) _ (lowerRecords book) 0 (λ m l. below m (omega arith))
+    ((keeps-next {S = ⊥}
+    (keeps-next
+    (keeps-each _ (keeps-alias book (λ w. given w .0)) (plainAliases book))
+    (keeps-constants book (λ w. given w .0) (λ s. s) (settled book) (λ w. given w .1)))
+    (keeps-bodies book (λ w. given w .0)))
+    .does (registerDeclarations book) 0 (λ w. given w .2))
 
 pub no-step-beyond : NoStepBeyond
 no-step-beyond book before rest d e =
@@ -57,3 +59,30 @@ stored-are-counted book =
     refl)
     .so-many (registerDeclarations book) 0
     ∙ omega arith
+
+-- the results and the diagnostics among events
+all-written : (es : List Event) → All (Fine Unit ⊥) es → Each Within (written es) × Each Within (told es)
+unfolding written told Each
+all-written [] h = (tt, tt)
+all-written (lowers p ∷ es) h = all-written es (h .1)
+all-written (resolves d ∷ es) h = all-written es (h .1)
+all-written (tells r ∷ es) h = let x = all-written es (h .1) in (x .0, (h .0 tt, x .1))
+all-written (writes r ∷ es) h = let x = all-written es (h .1) in ((h .0 .1 tt, x .0), x .1)
+
+pub written-within : WrittenWithin
+unfolding read
+written-within book most a s each e few h =
+    let t = lowerRecords (read book) in
+    let x = finished-adds (Unit × Names) most t start a s h in
+    let less : length (s .results) ≤ 2048 = omega (arith, x .results-within (omega arith)) in
+    let y =
+    all-written (events t 0)
+    (all-fine Unit (read book) (λ w. given) (λ m l w. omega (arith, ap (λ (rs : List Record). length rs) (x .results)))) in
+    (rw (x .results) (y .0), rw (x .diagnostics) (y .1))
+  where
+    given : All Within (records book) × All (λ c. IsWord (c .value)) (settled (read book)) × Sound (registerDeclarations (read book)) 0
+    given = (
+      records-within book each,
+      settled-word (read book) (records-within book each),
+      start-sound (read book) (omega (arith, few-records book each e)),
+    )

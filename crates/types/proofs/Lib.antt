@@ -5,3 +5,5 @@ pub mod Does
 pub mod Steps
 pub mod Counts
 pub mod Resolving
+pub mod Found
+pub mod Start

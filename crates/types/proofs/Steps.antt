@@ -1,7 +1,7 @@
--- Steps that write only records of a kind, from names of a kind to names of that kind; the records of a resolved type.
+-- Steps of a lowering and the records of a resolved type: what holds of all that they do.
 -- Assumes nothing.
 use Prim.Native.Nat.{ℕ, suc, _+_, _^_, _≤_, _<_}
-use mathlib.Core.Bool.{Bool, false, cond, _&&_}
+use mathlib.Core.Bool.{Bool, false, _&&_}
 use mathlib.Core.List.{List, [], _∷_}
 use mathlib.Core.Path.{_≡_, refl}
 use native.Mathlib.Omega.{arith}
@@ -10,12 +10,11 @@ use Rattle.record.specs.declared.Record.{Record}
 use Rattle.record.specs.declared.Span.{Span}
 use Rattle.record.specs.Layout.{Within}
 use Rattle.book.specs.Faults.{isKind}
-use Rattle.book.proofs.Lists.{All, either}
-use Rattle.types.specs.Lowering.{andThen}
+use Rattle.book.proofs.Lists.{All}
 use Rattle.types.specs.Events.{Event, lowers, resolves, tells, writes}
 use Rattle.types.specs.Resolved.{ResolvedType, primitive, subByte, semantic, named, oneChild, twoChildren, inlineBits}
 use Rattle.types.specs.Resolved.{Names, POISON}
-use Rattle.types.specs.Step.{Step, Resolved, _>>=_, _>>_, give, at, emit, tell, change, forEach, bare, message}
+use Rattle.types.specs.Step.{Step, Resolved, _>>=_, _>>_, give, at, emit, tell, change, forEach, message}
 use Rattle.types.specs.Step.{emitType, whole, overOne, overTwo, poison}
 use Rattle.types.proofs.Does.{Does, does-then}
 
@@ -46,11 +45,16 @@ one-more g = record { next = omega arith; numbers = g .numbers; pairs = g .pairs
 abbrev pub stored : Record → Bool
 stored r = isKind 41 r && eqb (r .sub) 1
 
--- W: where it is given, records are within their widths. S: where it is given, no result is a 41 that is marked stored.
-module _ (W S : Type 0) where
+-- Where W is given, records are within their widths: of a result's number and of a resolved type
+module _ (W : Type 0) where
   abbrev pub Below : ℕ → Type 0
   Below n = W → n < 2 ^ 16
 
+  abbrev pub Right : Resolved → Type 0
+  Right t = W → (t .root < 2 ^ 16) × Sized (t .type)
+
+-- Where S is given, no result is a 41 that is marked stored: of an event and of a step, from sound names to sound names
+module _ (W S : Type 0) where
   abbrev pub Fine : Event → Type 0
   Fine (lowers p) = Unit
   Fine (resolves d) = d ≤ 65
@@ -61,20 +65,17 @@ module _ (W S : Type 0) where
     pub does :
         (s : Names) (n : ℕ) →
         (W → Sound s n) →
-        Does Below Fine (λ x k. R (x .0) × (W → Sound (x .1) k)) (m s) n
-
-  -- of a resolved type
-  abbrev pub Right : Resolved → Type 0
-  Right t = W → (t .root < 2 ^ 16) × Sized (t .type)
+        Does (Below W) Fine (λ x k. R (x .0) × (W → Sound (x .1) k)) (m s) n
 
 module _ {W S : Type 0} where
+  -- one thing
   pub keeps-give : {A : Type 0} {R : A → Type 0} (a : A) → R a → Keeps W S R (give a)
   keeps-give a h = record { does = λ s n g. (h, g) }
 
   pub keeps-at : (n : ℕ) → Keeps W S (λ x. Unit) (at n)
   keeps-at n = record { does = λ s k g. (tt, (tt, g)) }
 
-  pub keeps-emit : (r : Record) → Fine W S (writes r) → Keeps W S (Below W S) (emit r)
+  pub keeps-emit : (r : Record) → Fine W S (writes r) → Keeps W S (Below W) (emit r)
   keeps-emit r fine = record { does = λ s n g below. (fine, (below, λ w. one-more (g w))) }
 
   pub keeps-tell : (r : Record) → (W → Within r) → Keeps W S (λ x. Unit) (tell r)
@@ -83,6 +84,7 @@ module _ {W S : Type 0} where
   pub keeps-change : (f : Names → Names) → (W → (s : Names) (n : ℕ) → Sound s n → Sound (f s) n) → Keeps W S (λ x. Unit) (change f)
   keeps-change f h = record { does = λ s n g. (tt, λ w. h w s n (g w)) }
 
+  -- one after the other
   pub keeps-then :
       {A B : Type 0} {Q : A → Type 0} {R : B → Type 0} {m : Step A} {f : A → Step B} →
       Keeps W S Q m →
@@ -92,7 +94,7 @@ module _ {W S : Type 0} where
       record {
         does =
             λ s n g.
-            does-then (Below W S) (Fine W S) _ _ (m s) (λ x. f (x .0) (x .1)) n (k .does s n g)
+            does-then (Below W) (Fine W S) _ _ (m s) (λ x. f (x .0) (x .1)) n (k .does s n g)
             (λ x j q. h (x .0) (q .0) .does (x .1) j (q .1));
       }
 
@@ -108,7 +110,8 @@ module _ {W S : Type 0} where
   keeps-each f h [] = keeps-give tt tt
   keeps-each f h (n ∷ ns) = keeps-next (h n) (keeps-each f h ns)
 
-  pub emits-type : (t : ResolvedType) → (W → Sized t) → Keeps W S (Below W S) (emitType t)
+  -- a resolved type, as a whole or over its children
+  pub emits-type : (t : ResolvedType) → (W → Sized t) → Keeps W S (Below W) (emitType t)
   unfolding emitType
   emits-type (primitive p) h = keeps-emit _ (λ c. refl, λ w. omega (arith, h w))
   emits-type (subByte p bits) h = keeps-emit _ (λ c. refl, λ w. omega (arith, h w))
@@ -122,17 +125,18 @@ module _ {W S : Type 0} where
       (λ a q. keeps-then (emits-type r (λ w. h w .2))
       (λ b y. keeps-emit _ (λ c. refl, λ w. omega (arith, h w, q w, y w))))
 
-  pub keeps-whole : (t : ResolvedType) → (W → Sized t) → Keeps W S (Right W S) (whole t)
+  pub keeps-whole : (t : ResolvedType) → (W → Sized t) → Keeps W S (Right W) (whole t)
   unfolding whole
   keeps-whole t h = keeps-then (emits-type t h) (λ n q. keeps-give _ (λ w. (q w, h w)))
 
-  pub keeps-over-one : (p size : ℕ) (t : Resolved) → (W → (p < 2 ^ 8) × (size < 2 ^ 64)) → Right W S t → Keeps W S (Right W S) (overOne p size t)
+  pub keeps-over-one :
+      (p size : ℕ) (t : Resolved) → (W → (p < 2 ^ 8) × (size < 2 ^ 64)) → Right W t → Keeps W S (Right W) (overOne p size t)
   unfolding overOne
   keeps-over-one p size t h q =
       keeps-then (keeps-emit _ (λ c. refl, λ w. omega (arith, h w, q w)))
       (λ n y. keeps-give _ (λ w. (y w, (h w .0, h w .1, q w .1))))
 
-  pub keeps-over-two : (p : ℕ) (l r : Resolved) → (W → p < 2 ^ 8) → Right W S l → Right W S r → Keeps W S (Right W S) (overTwo p l r)
+  pub keeps-over-two : (p : ℕ) (l r : Resolved) → (W → p < 2 ^ 8) → Right W l → Right W r → Keeps W S (Right W) (overTwo p l r)
   unfolding overTwo
   keeps-over-two p l r h q y =
       keeps-then (keeps-emit _ (λ c. refl, λ w. omega (arith, h w, q w, y w)))
@@ -141,6 +145,6 @@ module _ {W S : Type 0} where
   pub keeps-poison :
       (m a b class : ℕ) (span : Span) →
       (W → Within (message m a b class span)) →
-      Keeps W S (Right W S) (poison m a b class span)
+      Keeps W S (Right W) (poison m a b class span)
   unfolding poison
   keeps-poison m a b class span h = keeps-next (keeps-tell _ h) (keeps-whole (named POISON) (λ w. lit< tt))
