@@ -9,10 +9,10 @@ use native.Mathlib.Omega.{arith}
 use lib.Dec.{eqb, lit<}
 use Rattle.record.specs.declared.Record.{Record}
 use Rattle.record.specs.Layout.{Within}
-use Rattle.book.specs.Lists.{find}
+use Rattle.book.specs.Lists.{All, find}
 use Rattle.book.specs.Faults.{isKind}
 use Rattle.book.specs.Outline.{Book, _!_, notes, items}
-use Rattle.book.proofs.Lists.{All, If, either, all-keep, all-keep-while, all-drop, if-find}
+use Rattle.book.proofs.Lists.{If, either, all-keep, all-keep-while, all-drop, if-find}
 use Rattle.types.specs.Events.{writes}
 use Rattle.types.specs.Resolved.{ResolvedType}
 use Rattle.types.specs.Step.{Step, give}

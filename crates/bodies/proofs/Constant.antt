@@ -8,9 +8,8 @@ use native.Mathlib.Omega.{arith}
 use lib.IntN.{ℤ}
 use Rattle.record.specs.declared.Record.{Record}
 use Rattle.record.specs.Layout.{Within}
-use Rattle.book.specs.Lists.{keep}
+use Rattle.book.specs.Lists.{All, keep}
 use Rattle.book.specs.Outline.{Book, _!_}
-use Rattle.book.proofs.Lists.{All}
 use Rattle.constants.specs.Order.{Settled}
 use Rattle.constants.proofs.Values.{IsWord}
 use Rattle.types.specs.Lowering.{andThen}

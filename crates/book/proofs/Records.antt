@@ -14,13 +14,13 @@ use Rattle.record.specs.Bytes.{AreBytes}
 use Rattle.record.specs.Layout.{Within, recordAt}
 use Rattle.record.proofs.Numbers.{bytes-drop}
 use Rattle.record.proofs.Trips.{bytes-are-within}
-use Rattle.book.specs.Lists.{upTo}
+use Rattle.book.specs.Lists.{All, upTo}
 use Rattle.book.specs.Blocks.{lengthFault, blocks, recordsIn, recordCount, records}
 use Rattle.book.specs.Faults.{recordOf}
 use Rattle.book.specs.Refusal.{bookLength, at, faulty, firstRefusal}
 use Rattle.book.specs.First.{hasPlace}
 use Rattle.book.proofs.First.{passed-by-all}
-use Rattle.book.proofs.Lists.{All, all-at, all-map, from-length}
+use Rattle.book.proofs.Lists.{all-at, all-map, from-length}
 
 pub record-within : (rs : List Record) (n : ℕ) → All Within rs → Within (recordOf rs n)
 unfolding recordOf

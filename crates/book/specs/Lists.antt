@@ -6,6 +6,11 @@ use mathlib.Core.List.{List, [], _∷_}
 use mathlib.Core.Option.{Option, some, none}
 
 module _ {A : Type 0} where
+  -- each element has a property
+  abbrev pub All : (A → Type 0) → List A → Type 0
+  All P [] = Unit
+  All P (x ∷ xs) = P x × All P xs
+
   -- some element passes
   unfoldable pub any : (A → Bool) → List A → Bool
   any test [] = false

@@ -15,10 +15,10 @@ use Rattle.record.specs.Layout.{Within}
 use Rattle.arith.specs.Word.{MIN, MAX, word}
 use Rattle.arith.specs.Checked.{fitting, checkedAdd, checkedSub, checkedMul, checkedDiv}
 use Rattle.arith.proofs.Words.{word-and-back, cast-signed}
-use Rattle.book.specs.Lists.{find}
+use Rattle.book.specs.Lists.{All, find}
 use Rattle.book.specs.Faults.{recordOf, isKind}
 use Rattle.book.specs.Outline.{Book, _!_, numbersOf}
-use Rattle.book.proofs.Lists.{All, If, either, all-map, if-find}
+use Rattle.book.proofs.Lists.{If, either, all-map, if-find}
 use Rattle.book.proofs.Records.{record-within}
 use Rattle.constants.specs.Expr.{Literal, int, uint, float, hex, bool, literalOf}
 use Rattle.constants.specs.Expr.{Op, add, sub, mul, div, eq, ne, lt, le, gt, ge, opOf}

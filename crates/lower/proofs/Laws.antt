@@ -23,10 +23,11 @@ use Rattle.types.specs.Lowering.{Limits, State, start, Stop, tooDeep, full, sto
 use Rattle.types.specs.Resolved.{Names}
 use Rattle.types.specs.Events.{events, written, StopsAt, Fits}
 use Rattle.types.proofs.Events.{stopped-by-the-first, finished-if-all-fit, fits-within}
+use Rattle.types.specs.Step.{isStored}
 use Rattle.bodies.specs.Constant.{storedCount}
 use Rattle.lower.specs.LowerBook.{Reply, accepted, refused, Lowered, lowerBook, lowerRead, lowerRecords, usedLimits, ended}
-use Rattle.lower.specs.Written.{isStored, WrittenWithin, StoredAreCounted}
 use Rattle.lower.specs.Laws.{Leaves, SlicesAreLeft}
+use Rattle.lower.proofs.Written.{written-within, stored-are-counted}
 use Rattle.lower.proofs.Slices.{room-in-bytes, records-kept, is-cleared, read-back}
 use Rattle.lower.specs.Laws.{NoRowHolds, doings, RefusedByItsRow, StoppedByItsRow, IsAccepted, AcceptedByNone}
 
@@ -183,8 +184,8 @@ accepted-by-none book results diagnostics = (λ x. there x (goes book results di
               reply = reply-accepted book results diagnostics a s e q;
             }
 
--- what is left in the slices, from what is claimed of the records that are written
-module _ (written-within : WrittenWithin) (stored-are-counted : StoredAreCounted) (book results diagnostics : List ℕ) where
+-- what is left in the slices
+module _ (book results diagnostics : List ℕ) where
   abbrev Left : Lowered → Type 0
   Left x = Leaves results diagnostics x (x .reply)
 
@@ -232,5 +233,5 @@ module _ (written-within : WrittenWithin) (stored-are-counted : StoredAreCounted
       by (stops c p e h) = subst Left (sym (lower-ended book results diagnostics (stopped c p) e h)) (left-stopped c p)
       by (ends a s e h) = subst Left (sym (lower-ended book results diagnostics (finished a s) e h)) (left-accepted bytes e a s h)
 
-pub slices-by : WrittenWithin → StoredAreCounted → SlicesAreLeft
-slices-by w c book results diagnostics bytes = left w c book results diagnostics bytes
+pub slices-are-left : SlicesAreLeft
+slices-are-left book results diagnostics bytes = left book results diagnostics bytes

@@ -1,3 +1,3 @@
 pub mod Slices
-pub mod Laws
 pub mod Written
+pub mod Laws

@@ -10,9 +10,8 @@ use Rattle.record.specs.declared.Record.{Record}
 use Rattle.record.specs.Layout.{Within, decodeRecord, encodeRecord}
 use Rattle.record.specs.Write.{roomFor}
 use Rattle.record.proofs.Trips.{encode-length, decode-encode}
-use Rattle.book.specs.Lists.{from, upTo}
+use Rattle.book.specs.Lists.{All, from, upTo}
 use Rattle.lower.specs.LowerBook.{withRecords, cleared}
-use Rattle.lower.specs.Written.{All}
 use Rattle.lower.specs.Laws.{KeptFrom, Cleared, firstRecords}
 
 pub room-in-bytes : (most : ℕ) (l : List ℕ) (n : ℕ) → n ≤ roomFor most l → 24 * n ≤ length l
@@ -47,7 +46,7 @@ is-cleared limit lent h =
 
 -- records within their widths are read back
 read-from : (rs : List Record) (k : ℕ) (slice rest : List ℕ) → All Within rs → drop (24 * k) slice ≡ flatMap encodeRecord rs ++ rest → map (λ i. decodeRecord (drop (24 * i) slice)) (from k (length rs)) ≡ rs
-unfolding from flatMap All
+unfolding from flatMap
 read-from [] k slice rest w e = refl
 read-from (r ∷ rs) k slice rest w e =
     let here : drop (24 * k) slice ≡ encodeRecord r ++ (flatMap encodeRecord rs ++ rest) = e ∙ append-assoc (encodeRecord r) (flatMap encodeRecord rs) rest in

@@ -9,7 +9,7 @@ use Rattle.record.specs.declared.Record.{Record}
 use Rattle.record.specs.Layout.{Within}
 use Rattle.book.specs.Blocks.{records}
 use Rattle.book.specs.Outline.{Book, read}
-use Rattle.book.proofs.Lists.{All}
+use Rattle.book.specs.Lists.{All}
 use Rattle.book.proofs.Records.{records-within, few-records}
 use Rattle.constants.specs.Declared.{settled}
 use Rattle.constants.proofs.Values.{IsWord, settled-word}
@@ -26,7 +26,7 @@ use Rattle.types.proofs.Resolving.{keeps-alias}
 use Rattle.bodies.proofs.Constant.{keeps-constants, stores-constants}
 use Rattle.bodies.proofs.Bodies.{keeps-bodies}
 use Rattle.lower.specs.LowerBook.{lowerRecords}
-use Rattle.lower.specs.Written.{All as Each, NoStepBeyond, StoredAreCounted, WrittenWithin}
+use Rattle.lower.specs.Written.{NoStepBeyond, StoredAreCounted, WrittenWithin}
 
 -- of all that is done for a book. Where W is given, its records, the values of its constants and the names of its declarations are within
 -- their widths, and so are the numbers of results.
@@ -61,8 +61,8 @@ stored-are-counted book =
     ∙ omega arith
 
 -- the results and the diagnostics among events
-all-written : (es : List Event) → All (Fine Unit ⊥) es → Each Within (written es) × Each Within (told es)
-unfolding written told Each
+all-written : (es : List Event) → All (Fine Unit ⊥) es → All Within (written es) × All Within (told es)
+unfolding written told
 all-written [] h = (tt, tt)
 all-written (lowers p ∷ es) h = all-written es (h .1)
 all-written (resolves d ∷ es) h = all-written es (h .1)

@@ -16,8 +16,8 @@ use Rattle.book.specs.Refusal.{Refusal, number}
 use Rattle.book.specs.First.{IsFirst, Holds, hasPlace}
 use Rattle.book.specs.Outline.{read}
 use Rattle.types.specs.Lowering.{Stop, stopNumber}
+use Rattle.types.specs.Step.{isStored}
 use Rattle.types.specs.Events.{Event, events, StopsAt, Fits}
-use Rattle.lower.specs.Written.{isStored}
 use Rattle.lower.specs.LowerBook.{Reply, accepted, refused, Lowered, lowerBook, lowerRecords, usedLimits}
 
 -- a slice as it was from byte n on, and as long as it was

@@ -1,30 +1,22 @@
 -- What is claimed of the records that a lowering writes; the proofs are in proofs/Written.antt.
 -- Assumes nothing.
 use Prim.Native.Nat.{ℕ, _≤_}
-use mathlib.Core.Bool.{Bool, _&&_}
-use mathlib.Core.List.{List, [], _∷_, _++_}
+use mathlib.Core.List.{List, _∷_, _++_}
 use mathlib.Core.Option.{none}
 use mathlib.Core.Path.{_≡_}
-use lib.Dec.{eqb}
 use lib.ListN.{length}
-use Rattle.record.specs.declared.Record.{Record}
 use Rattle.record.specs.Bytes.{AreBytes}
 use Rattle.record.specs.Layout.{Within}
-use Rattle.book.specs.Lists.{keep}
-use Rattle.book.specs.Faults.{isKind}
+use Rattle.book.specs.Lists.{All, keep}
 use Rattle.book.specs.Refusal.{firstRefusal}
 use Rattle.book.specs.Outline.{Book, read}
 use Rattle.constants.specs.Declared.{settled}
 use Rattle.types.specs.Lowering.{Limits, State, start, finished, run}
 use Rattle.types.specs.Events.{Event, resolves, events, written}
 use Rattle.types.specs.Resolved.{Names}
+use Rattle.types.specs.Step.{isStored}
 use Rattle.bodies.specs.Constant.{storedCount}
 use Rattle.lower.specs.LowerBook.{lowerRecords}
-
--- each element has a property
-unfoldable pub All : {A : Type 0} → (A → Type 0) → List A → Type 0
-All P [] = Unit
-All P (x ∷ xs) = P x × All P xs
 
 -- "resolving deeper than 64": the step at which 9 is given is the 65th, and no lowering goes beyond it
 abbrev pub NoStepBeyond : Type 0
@@ -41,10 +33,6 @@ WrittenWithin =
     most .results ≤ 2048 →
     run most (lowerRecords (read book)) start ≡ finished a s →
     All Within (s .results) × All Within (s .diagnostics)
-
--- "41 reached constant (sub 1 stored [..])"
-abbrev pub isStored : Record → Bool
-isStored r = isKind 41 r && eqb (r .sub) 1
 
 -- the 41s marked stored are as many as the constants that have a value
 abbrev pub StoredAreCounted : Type 0

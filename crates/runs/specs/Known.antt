@@ -8,6 +8,7 @@ use mathlib.Core.Path.{_≡_}
 use lib.IntN.{pos}
 use lib.ListN.{length}
 use Rattle.record.specs.declared.Record.{Record}
+use Rattle.book.specs.Lists.{All}
 use Rattle.book.specs.Outline.{read}
 use Rattle.lower.specs.LowerBook.{Reply, accepted, Lowered, lowerBook, withRecords}
 use Rattle.runs.specs.Books.{bookOf, rec}
@@ -22,11 +23,6 @@ pub record Known : Type 0 where
   pub results : List Record
   pub diagnostics : List Record
   pub says : List Claim
-
--- P holds of every element
-abbrev pub All : {A : Type 0} → (A → Type 0) → List A → Type 0
-All P [] = Unit
-All P (x ∷ xs) = P x × All P xs
 
 -- a reply, and two slices that have records from their start on and are else as lent
 abbrev pub leaving : Reply → List Record → List Record → List ℕ → List ℕ → Lowered

@@ -8,11 +8,12 @@ use mathlib.Core.Path.{_≡_}
 use lib.IntN.{pos}
 use lib.ListN.{length}
 use Rattle.record.specs.declared.Record.{Record}
+use Rattle.book.specs.Lists.{All}
 use Rattle.lower.specs.LowerBook.{Reply, accepted, lowerBook}
 use Rattle.runs.specs.Books.{bookOf, rec}
 use Rattle.runs.specs.Claims.{Claim, minus, stored, oneMessage, noMessage, newtypeOver, u8, number, arrayOf, poison}
 use Rattle.runs.specs.Claims.{default, varint, deltaOver, isDelta, noDelta}
-use Rattle.runs.specs.Known.{Known, All, leaving, Answered, N1, N2, N3, none, k5, k6, k10}
+use Rattle.runs.specs.Known.{Known, leaving, Answered, N1, N2, N3, none, k5, k6, k10}
 
 -- names
 abbrev pub N4 : ℕ

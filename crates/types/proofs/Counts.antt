@@ -7,14 +7,13 @@ use mathlib.Core.Path.{_≡_, refl, ap, _∙_}
 use native.Mathlib.Omega.{arith}
 use lib.ListN.{length}
 use Rattle.record.specs.declared.Record.{Record}
-use Rattle.book.specs.Lists.{keep}
-use Rattle.book.proofs.Lists.{All}
+use Rattle.book.specs.Lists.{All, keep}
 use Rattle.types.specs.Lowering.{Lowering, done, lowering, resolving, diagnostic, result, andThen}
 use Rattle.types.specs.Events.{Event, lowers, resolves, tells, writes, events, written}
 use Rattle.types.specs.Resolved.{Names}
-use Rattle.types.specs.Step.{Step, _>>=_}
+use Rattle.types.specs.Step.{Step, _>>=_, isStored}
 use Rattle.types.proofs.Does.{all-events}
-use Rattle.types.proofs.Steps.{stored, Fine, Keeps}
+use Rattle.types.proofs.Steps.{Fine, Keeps}
 
 module _ (test : Record → Bool) where
   abbrev pub passing : List Event → ℕ
@@ -47,7 +46,7 @@ module _ (test : Record → Bool) where
 
 -- how many 41s marked stored a step writes, whatever is there before
 pub record Stores {A : Type 0} (c : ℕ) (m : Step A) : Type 0 where
-  pub so-many : (s : Names) (n : ℕ) → passing stored (events (m s) n) ≡ c
+  pub so-many : (s : Names) (n : ℕ) → passing isStored (events (m s) n) ≡ c
 
 pub stores-then :
     {A B : Type 0} {c d e : ℕ} {m : Step A} {f : A → Step B} →
@@ -59,7 +58,7 @@ stores-then {d} {m} {f} k h total =
     record {
       so-many =
           λ s n.
-          passing-then stored (m s) (λ x. f (x .0) (x .1)) n d (λ x j. h (x .0) .so-many (x .1) j)
+          passing-then isStored (m s) (λ x. f (x .0) (x .1)) n d (λ x j. h (x .0) .so-many (x .1) j)
           ∙ ap (λ z. z + d) (k .so-many s n)
           ∙ total;
     }
@@ -69,7 +68,7 @@ stores-none {m} k =
     record {
       so-many =
           λ s n.
-          passing-none stored (Fine ⊥ Unit) (λ r p. p .0 tt) (events (m s) n)
+          passing-none isStored (Fine ⊥ Unit) (λ r p. p .0 tt) (events (m s) n)
           (all-events _ (Fine ⊥ Unit) _ (m s) n (λ j l w. absurd w) (k .does s n (λ w. absurd w)));
     }
 

@@ -4,7 +4,7 @@ use Prim.Native.Nat.{ℕ, suc, _+_, _≤_}
 use mathlib.Core.List.{List, [], _∷_, _++_}
 use native.Mathlib.Omega.{arith}
 use lib.ListN.{length}
-use Rattle.book.proofs.Lists.{All}
+use Rattle.book.specs.Lists.{All}
 use Rattle.types.specs.Lowering.{Lowering, done, lowering, resolving, diagnostic, result, andThen}
 use Rattle.types.specs.Events.{Event, lowers, resolves, tells, writes, events, written}
 

@@ -6,12 +6,12 @@ use mathlib.Core.List.{List, [], _∷_}
 use mathlib.Core.Option.{Option, some, none, Option·map}
 use native.Mathlib.Omega.{arith}
 use lib.Dec.{eqb, lit<}
-use Rattle.book.specs.Lists.{find}
+use Rattle.book.specs.Lists.{All, find}
 use Rattle.book.specs.Outline.{Book}
-use Rattle.book.proofs.Lists.{All, If, all-append, if-find}
+use Rattle.book.proofs.Lists.{If, all-append, if-find}
 use Rattle.types.specs.Resolved.{ResolvedType, named, Names, entry, ownNumber, aliasOf, pairNumber, lookup}
 use Rattle.types.specs.Resolved.{withStub, withPair, withAlias}
-use Rattle.types.specs.Resolve.{Found, type, stub, unresolved, firstOf, isDeclared, isAmbiguous, findName, findQualified}
+use Rattle.types.specs.Resolve.{onlyIf, Found, type, stub, unresolved, firstOf, isDeclared, isAmbiguous, findName, findQualified}
 use Rattle.types.proofs.Steps.{Sized, Sound}
 
 abbrev pub SizedFound : Found → Type 0
@@ -23,11 +23,6 @@ SizedFound (unresolved m) = m < 2 ^ 8
 if-map : {A B : Type 0} (P : B → Type 0) (f : A → B) (o : Option A) → If (λ a. P (f a)) o → If P (Option·map f o)
 if-map P f none h = tt
 if-map P f (some a) h = h
-
--- as in specs/Resolve.antt, where it is private
-abbrev onlyIf : {A : Type 0} → Bool → Option A → Option A
-onlyIf true x = x
-onlyIf false x = none
 
 if-only : {A : Type 0} (P : A → Type 0) (b : Bool) (o : Option A) → If P o → If P (onlyIf b o)
 if-only P true o h = h

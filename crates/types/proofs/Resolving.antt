@@ -10,7 +10,8 @@ use Rattle.record.specs.declared.Span.{Span}
 use Rattle.record.specs.Layout.{Within}
 use Rattle.book.specs.Faults.{isKind}
 use Rattle.book.specs.Outline.{Book, _!_}
-use Rattle.book.proofs.Lists.{All, either}
+use Rattle.book.specs.Lists.{All}
+use Rattle.book.proofs.Lists.{either}
 use Rattle.book.proofs.Records.{record-within}
 use Rattle.types.specs.Lowering.{resolving, andThen}
 use Rattle.types.specs.Resolved.{named, Names, withStub, withPair}

@@ -7,10 +7,10 @@ use native.Mathlib.Nat.{le-trans}
 use native.Mathlib.Omega.{arith}
 use lib.ListN.{length, length-append, length-map}
 use Rattle.record.specs.declared.Record.{Record}
-use Rattle.book.specs.Lists.{numberedFrom, from}
+use Rattle.book.specs.Lists.{All, numberedFrom, from}
 use Rattle.book.specs.Faults.{isKind}
 use Rattle.book.specs.Outline.{Book, _!_, numbersOf}
-use Rattle.book.proofs.Lists.{All, keep-length, from-length}
+use Rattle.book.proofs.Lists.{keep-length, from-length}
 use Rattle.types.specs.Numbers.{typeDeclarations, genericAliases, registerDeclarations}
 use Rattle.types.proofs.Steps.{Sound}
 

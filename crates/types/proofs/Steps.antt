@@ -10,11 +10,11 @@ use Rattle.record.specs.declared.Record.{Record}
 use Rattle.record.specs.declared.Span.{Span}
 use Rattle.record.specs.Layout.{Within}
 use Rattle.book.specs.Faults.{isKind}
-use Rattle.book.proofs.Lists.{All}
+use Rattle.book.specs.Lists.{All}
 use Rattle.types.specs.Events.{Event, lowers, resolves, tells, writes}
 use Rattle.types.specs.Resolved.{ResolvedType, primitive, subByte, semantic, named, oneChild, twoChildren, inlineBits}
 use Rattle.types.specs.Resolved.{Names, POISON}
-use Rattle.types.specs.Step.{Step, Resolved, _>>=_, _>>_, give, at, emit, tell, change, forEach, message}
+use Rattle.types.specs.Step.{Step, Resolved, _>>=_, _>>_, give, at, emit, tell, change, forEach, message, isStored}
 use Rattle.types.specs.Step.{emitType, whole, overOne, overTwo, poison}
 use Rattle.types.proofs.Does.{Does, does-then}
 
@@ -41,10 +41,6 @@ pub record Sound (s : Names) (n : ℕ) : Type 0 where
 pub one-more : {s : Names} {n : ℕ} → Sound s n → Sound s (suc n)
 one-more g = record { next = omega arith; numbers = g .numbers; pairs = g .pairs; aliases = g .aliases }
 
--- "41 reached constant (sub 1 stored [..])"
-abbrev pub stored : Record → Bool
-stored r = isKind 41 r && eqb (r .sub) 1
-
 -- Where W is given, records are within their widths: of a result's number and of a resolved type
 module _ (W : Type 0) where
   abbrev pub Below : ℕ → Type 0
@@ -59,7 +55,7 @@ module _ (W S : Type 0) where
   Fine (lowers p) = Unit
   Fine (resolves d) = d ≤ 65
   Fine (tells r) = W → Within r
-  Fine (writes r) = (S → stored r ≡ false) × (W → Within r)
+  Fine (writes r) = (S → isStored r ≡ false) × (W → Within r)
 
   pub record Keeps {A : Type 0} (R : A → Type 0) (m : Step A) : Type 0 where
     pub does :

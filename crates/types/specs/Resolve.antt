@@ -52,7 +52,7 @@ firstOf (some x ∷ xs) d = x
 firstOf (none ∷ xs) d = firstOf xs d
 
 -- what is there, under a condition
-abbrev onlyIf : {A : Type 0} → Bool → Option A → Option A
+abbrev pub onlyIf : {A : Type 0} → Bool → Option A → Option A
 onlyIf true x = x
 onlyIf false x = none
 

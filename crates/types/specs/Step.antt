@@ -2,6 +2,9 @@
 -- Assumes nothing.
 use Prim.Native.Nat.{ℕ}
 use mathlib.Core.List.{List, [], _∷_}
+use mathlib.Core.Bool.{Bool, _&&_}
+use lib.Dec.{eqb}
+use Rattle.book.specs.Faults.{isKind}
 use Rattle.record.specs.declared.Record.{Record}
 use Rattle.record.specs.declared.Span.{Span}
 use Rattle.types.specs.Lowering.{Lowering, done, lowering, diagnostic, result, andThen}
@@ -89,3 +92,7 @@ message m a b class span = record { kind = 50; sub = m; a = a; b = b; c = 0; v =
 -- a message, and poison for the type; "v 0 `UnresolvedType`, 1 `AliasTargetNotFound` (message 3)"
 unfoldable pub poison : ℕ → ℕ → ℕ → ℕ → Span → Step Resolved
 poison m a b class span = tell (message m a b class span) >> whole (named POISON)
+
+-- the record is a 41 marked stored: "41 reached constant (sub 1 stored [..])"
+abbrev pub isStored : Record → Bool
+isStored r = isKind 41 r && eqb (r .sub) 1
