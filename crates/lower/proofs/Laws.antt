@@ -101,21 +101,29 @@ module _ (book results diagnostics : List ℕ) where
       by none e (finished a s) h = ends a s e h
 
   -- the reply of each
-  reply-refused : (x : Refusal) → firstRefusal book ≡ some x → (lowerBook book results diagnostics) .reply ≡ refused (number (x .cause)) (x .place)
+  reply-refused :
+      (x : Refusal) → firstRefusal book ≡ some x →
+      (lowerBook book results diagnostics) .reply ≡ refused (number (x .cause)) (x .place)
   reply-refused x e = ap (λ (y : Lowered). y .reply) (lower-refused x e)
 
-  reply-stopped : (c : Stop) (p : ℕ) → firstRefusal book ≡ none → outcome ≡ stopped c p → (lowerBook book results diagnostics) .reply ≡ refused (stopNumber c) p
+  reply-stopped :
+      (c : Stop) (p : ℕ) → firstRefusal book ≡ none → outcome ≡ stopped c p →
+      (lowerBook book results diagnostics) .reply ≡ refused (stopNumber c) p
   unfolding ended
   reply-stopped c p e h = ap (λ (y : Lowered). y .reply) (lower-ended (stopped c p) e h)
 
-  reply-accepted : (a : Unit × Names) (s : State) → firstRefusal book ≡ none → outcome ≡ finished a s → (lowerBook book results diagnostics) .reply ≡ accepted (length (s .results)) (length (s .diagnostics)) (storedCount (settled (read book)))
+  reply-accepted :
+      (a : Unit × Names) (s : State) → firstRefusal book ≡ none → outcome ≡ finished a s →
+      (lowerBook book results diagnostics) .reply ≡ accepted (length (s .results)) (length (s .diagnostics)) (storedCount (settled (read book)))
   unfolding ended
   reply-accepted a s e h = ap (λ (y : Lowered). y .reply) (lower-ended (finished a s) e h)
 
 pub refused-by-its-row : RefusedByItsRow
 refused-by-its-row book results diagnostics x = (λ h. there h (goes book results diagnostics), back)
   where
-    there : (lowerBook book results diagnostics) .reply ≡ refused (number (x .cause)) (x .place) → Goes book results diagnostics → IsFirst book x
+    there :
+        (lowerBook book results diagnostics) .reply ≡ refused (number (x .cause)) (x .place) →
+        Goes book results diagnostics → IsFirst book x
     there h (turned-back y e) =
         let is : refused (number (y .cause)) (y .place) ≡ refused (number (x .cause)) (x .place) = sym (reply-refused book results diagnostics y e) ∙ h in
         refused-by-the-first book x .0 (e ∙ ap some (same y x (ap replyPlace is) (ap replyNumber is)))
@@ -132,10 +140,13 @@ refused-by-its-row book results diagnostics x = (λ h. there h (goes book result
 pub stopped-by-its-row : StoppedByItsRow
 stopped-by-its-row book results diagnostics c p = (λ h. there h (goes book results diagnostics), back)
   where
-    to : run (usedLimits results diagnostics) (lowerRecords (read book)) start ≡ stopped c p ↔ StopsAt (usedLimits results diagnostics) (doings book) c p
+    to :
+        run (usedLimits results diagnostics) (lowerRecords (read book)) start ≡ stopped c p ↔ StopsAt (usedLimits results diagnostics) (doings book) c p
     to = stopped-by-the-first (Unit × Names) (usedLimits results diagnostics) (lowerRecords (read book)) c p
 
-    there : (lowerBook book results diagnostics) .reply ≡ refused (stopNumber c) p → Goes book results diagnostics → NoRowHolds book × StopsAt (usedLimits results diagnostics) (doings book) c p
+    there :
+        (lowerBook book results diagnostics) .reply ≡ refused (stopNumber c) p → Goes book results diagnostics →
+        NoRowHolds book × StopsAt (usedLimits results diagnostics) (doings book) c p
     there h (turned-back y e) =
         let is : number (y .cause) ≡ stopNumber c = ap replyNumber (sym (reply-refused book results diagnostics y e) ∙ h) in
         absurd (omega (arith, stop-range c, number-range (y .cause)))
@@ -146,13 +157,17 @@ stopped-by-its-row book results diagnostics c p = (λ h. there h (goes book resu
         let is : 0 ≡ stopNumber c = ap replyNumber (sym (reply-accepted book results diagnostics a s e q) ∙ h) in
         absurd (omega (arith, stop-range c))
 
-    back : NoRowHolds book × StopsAt (usedLimits results diagnostics) (doings book) c p → (lowerBook book results diagnostics) .reply ≡ refused (stopNumber c) p
+    back :
+        NoRowHolds book × StopsAt (usedLimits results diagnostics) (doings book) c p →
+        (lowerBook book results diagnostics) .reply ≡ refused (stopNumber c) p
     back x = reply-stopped book results diagnostics c p (passed-by-all book .1 (x .0)) (to .1 (x .1))
 
 pub accepted-by-none : AcceptedByNone
 accepted-by-none book results diagnostics = (λ x. there x (goes book results diagnostics), back)
   where
-    there : IsAccepted (lowerBook book results diagnostics) → Goes book results diagnostics → NoRowHolds book × Fits (usedLimits results diagnostics) (doings book)
+    there :
+        IsAccepted (lowerBook book results diagnostics) → Goes book results diagnostics →
+        NoRowHolds book × Fits (usedLimits results diagnostics) (doings book)
     there x (turned-back y e) =
         let is : number (y .cause) ≡ 0 = ap replyNumber (sym (reply-refused book results diagnostics y e) ∙ x .reply) in
         absurd (omega (arith, number-range (y .cause)))
@@ -189,11 +204,15 @@ module _ (book results diagnostics : List ℕ) where
   abbrev Left : Lowered → Type 0
   Left x = Leaves results diagnostics x (x .reply)
 
-  left-refused : (x : Refusal) → Left (record { reply = refused (number (x .cause)) (x .place); results = results; diagnostics = diagnostics })
+  left-refused :
+      (x : Refusal) →
+      Left (record { reply = refused (number (x .cause)) (x .place); results = results; diagnostics = diagnostics })
   unfolding Leaves
   left-refused x = (λ h. (refl, refl), λ h. absurd (omega (arith, number-range (x .cause))))
 
-  left-stopped : (c : Stop) (p : ℕ) → Left (ended {A = Unit × Names} (storedCount (settled (read book))) (usedLimits results diagnostics) results diagnostics (stopped c p))
+  left-stopped :
+      (c : Stop) (p : ℕ) →
+      Left (ended {A = Unit × Names} (storedCount (settled (read book))) (usedLimits results diagnostics) results diagnostics (stopped c p))
   unfolding Leaves ended usedLimits
   left-stopped c p = (
     λ h. absurd (omega (arith, stop-range c)),

@@ -45,7 +45,10 @@ is-cleared limit lent h =
     }
 
 -- records within their widths are read back
-read-from : (rs : List Record) (k : ℕ) (slice rest : List ℕ) → All Within rs → drop (24 * k) slice ≡ flatMap encodeRecord rs ++ rest → map (λ i. decodeRecord (drop (24 * i) slice)) (from k (length rs)) ≡ rs
+read-from :
+    (rs : List Record) (k : ℕ) (slice rest : List ℕ) → All Within rs →
+    drop (24 * k) slice ≡ flatMap encodeRecord rs ++ rest →
+    map (λ i. decodeRecord (drop (24 * i) slice)) (from k (length rs)) ≡ rs
 unfolding from flatMap
 read-from [] k slice rest w e = refl
 read-from (r ∷ rs) k slice rest w e =

@@ -10,7 +10,7 @@ use Rattle.lower.specs.LowerBook.{Lowered, Reply, accepted, refused}
 use Rattle.runs.specs.Compute.{computed}
 use Rattle.runs.specs.Claims.{standsAt, behindField}
 use Rattle.runs.specs.Known.{leaving, Answered}
-use Rattle.runs.specs.Slips.{castSeen, unknownHead, deltaAndBool, deltaAndUnion, AnswersBeside, Slip, NotSo, NoSlip}
+use Rattle.runs.specs.Slips.{castSeen, unknownHead, argumentOutside, deltaAndBool, deltaAndUnion, AnswersBeside, Slip, NotSo, NoSlip}
 use Rattle.runs.specs.Slips.{squareStored, innerSubstituted, headStubbed, headStubbedThenLookedAt}
 use Rattle.runs.specs.Slips.{deltaOnBool, deltaOnUnion, dividedDown}
 use Rattle.runs.proofs.Full.{lowerFull}
@@ -24,6 +24,10 @@ unknown-head-answered : Answered unknownHead
 unfolding computed lowerFull standsAt behindField
 unknown-head-answered = answered unknownHead refl (λ results diagnostics. refl) (refl & refl & tt)
 
+argument-outside-answered : Answered argumentOutside
+unfolding computed lowerFull standsAt behindField
+argument-outside-answered = answered argumentOutside refl (λ results diagnostics. refl) (refl & refl & tt)
+
 delta-and-bool-answered : Answered deltaAndBool
 unfolding computed lowerFull standsAt behindField
 delta-and-bool-answered = answered deltaAndBool refl (λ results diagnostics. refl) (refl & refl & tt)
@@ -33,7 +37,13 @@ unfolding computed lowerFull standsAt behindField
 delta-and-union-answered = answered deltaAndUnion refl (λ results diagnostics. refl) (refl & refl & tt)
 
 pub answers-beside : AnswersBeside
-answers-beside = cast-seen-answered & unknown-head-answered & delta-and-bool-answered & delta-and-union-answered & tt
+answers-beside =
+    cast-seen-answered
+    & unknown-head-answered
+    & argument-outside-answered
+    & delta-and-bool-answered
+    & delta-and-union-answered
+    & tt
 
 -- the numbers of a reply, and behind an accepting one the bytes of the records counted
 abbrev counted : Lowered → Reply → List ℕ

@@ -41,5 +41,18 @@ use Rattle.runs.specs.Books.{blockBytes, withCheck, blocksFrom}
 
 -- a book's lowering; where this unfolds, all that follows does
 unfoldable pub computed : List ℕ → List ℕ → List ℕ → Lowered
-unfolding flatMap blockBytes withCheck blocksFrom littleEndian littleBytes decodeRecord encodeRecord recordAt words onesSum checksum blockWords blockCheck checkHolds signed asI64 word fitting checkedAdd checkedSub checkedMul checkedDiv any find keep keepWhile numberedFrom from allows table rowOf wellShaped childIn children isOf lengthFault blockFault recordCount records wildcards recordOf shapeFault uses usedBefore usedTwice childFault before firstIs mayFollow followFault nameSet nameFault deeperThan depthFault number faulty inOrder firstRefusal read numbersOf notes items exprOf exprAt refs store literalValue apply applyTo evalConstExpr declaredRefs repeats admits ready orderFrom order settle outcome constantAt constants settled andThen stopNumber run entry ownNumber aliasOf pairNumber asNumber orElse lookup withStub withPair withAlias forEach emitType whole overOne overTwo poison parameters genericAliases plainAliases typeDeclarations genericAt generics registerDeclarations typeExpr firstOf findName resolveName findQualified resolveQualified findHead resolveBy resolveType resolveTypeExpr resolveTypeExprWithSubstitution lowerAlias limitIn computeFieldEncoding deltaRows deltaInner underDelta encodingNumber encodingRecord whereExpr lowerWhereBy lowerWhereExpr tellUnless constantRecord lowerConstant lowerConstants storedCount unlessNone lowerField firstString lowerTombstone lowerVariant lowerItem lowerMessage lowerUnion lowerNewtype lowerDecl lowerBodies lowerRecords usedLimits withRecords cleared ended lowerRead lowerBook
+unfolding flatMap blockBytes withCheck blocksFrom littleEndian littleBytes decodeRecord encodeRecord recordAt words
+    onesSum checksum blockWords blockCheck checkHolds signed asI64 word fitting checkedAdd checkedSub checkedMul
+    checkedDiv any find keep keepWhile numberedFrom from allows table rowOf wellShaped childIn children isOf lengthFault
+    blockFault recordCount records wildcards recordOf shapeFault uses usedBefore usedTwice childFault before firstIs
+    mayFollow followFault nameSet nameFault deeperThan depthFault number faulty inOrder firstRefusal read numbersOf
+    notes items exprOf exprAt refs store literalValue apply applyTo evalConstExpr declaredRefs repeats admits ready
+    orderFrom order settle outcome constantAt constants settled andThen stopNumber run entry ownNumber aliasOf
+    pairNumber asNumber orElse lookup withStub withPair withAlias forEach emitType whole overOne overTwo poison
+    parameters genericAliases plainAliases typeDeclarations genericAt generics registerDeclarations typeExpr firstOf
+    findName resolveName findQualified resolveQualified findHead resolveBy resolveType resolveTypeExpr
+    resolveTypeExprWithSubstitution lowerAlias limitIn computeFieldEncoding deltaRows deltaInner underDelta
+    encodingNumber encodingRecord whereExpr lowerWhereBy lowerWhereExpr tellUnless constantRecord lowerConstant
+    lowerConstants storedCount unlessNone lowerField firstString lowerTombstone lowerVariant lowerItem lowerMessage
+    lowerUnion lowerNewtype lowerDecl lowerBodies lowerRecords usedLimits withRecords cleared ended lowerRead lowerBook
 computed = lowerBook

@@ -13,7 +13,7 @@ use Rattle.lower.specs.LowerBook.{Reply, accepted, lowerBook}
 use Rattle.runs.specs.Books.{bookOf, rec}
 use Rattle.runs.specs.Claims.{Claim, minus, stored, oneMessage, noMessage, newtypeOver, u8, number, arrayOf, poison}
 use Rattle.runs.specs.Claims.{default, varint, deltaOver, isDelta, noDelta}
-use Rattle.runs.specs.Known.{Known, leaving, Answered, N1, N2, N3, none, k5, k6, k10}
+use Rattle.runs.specs.Known.{Known, leaving, Answered, N1, N2, N3, Outer, T, none, k5, k6, k10}
 
 -- names
 abbrev pub N4 : ℕ
@@ -70,6 +70,33 @@ unknownHead =
           rec 50 4 Foo 0 0 0 110 2  -- 0: message 4, Foo
           ∷ [];
       says = newtypeOver N1 poison ∷ oneMessage 4 Foo 110 2 ∷ [];
+    }
+
+-- Outer<T> = array of T, and Outer of T, T being undeclared. The argument stands outside the target: it is no parameter there, and "an argument
+-- as a whole [takes the span] of the parameter it replaces".
+abbrev pub argumentOutside : Known
+argumentOutside =
+    record {
+      wildcards = false;
+      book =
+          rec 4 0 T 0 0 0 100 1  -- 0: T
+          ∷ rec 7 1 0 0 0 0 110 2  -- 1: array of record 0
+          ∷ rec 23 0 Outer 1 0 0 120 3  -- 2: alias Outer: record 1
+          ∷ rec 30 0 T 0 0 0 130 4  -- 3: its parameter T
+          ∷ rec 4 0 T 0 0 0 140 5  -- 4: T
+          ∷ rec 6 0 Outer 4 0 0 150 6  -- 5: Outer of record 4
+          ∷ rec 22 0 N2 5 0 0 160 7  -- 6: newtype N2: record 5
+          ∷ [];
+      reply = accepted 3 1 0;
+      results =
+          rec 4 0 0 0 0 4294967295 0 0  -- 0: poison
+          ∷ rec 7 1 0 0 0 0 0 0  -- 1: array of 0
+          ∷ rec 48 0 N2 1 0 0 160 7  -- 2: newtype N2: type 1
+          ∷ [];
+      diagnostics =
+          rec 50 1 T 0 0 0 100 1  -- 0: message 1, T
+          ∷ [];
+      says = newtypeOver N2 (arrayOf poison) ∷ oneMessage 1 T 100 1 ∷ [];
     }
 
 -- a Bool and a u8 in a delta message: "fields not yet delta and resolved to primitive 1-12 or sub-byte become delta", and Bool is 0
@@ -131,7 +158,7 @@ deltaAndUnion =
     }
 
 abbrev pub beside : List Known
-beside = castSeen ∷ unknownHead ∷ deltaAndBool ∷ deltaAndUnion ∷ []
+beside = castSeen ∷ unknownHead ∷ argumentOutside ∷ deltaAndBool ∷ deltaAndUnion ∷ []
 
 -- their answers, claimed as those of K1 to K12 are. The proof is in proofs/Slips.antt.
 abbrev pub AnswersBeside : Type 0

@@ -80,15 +80,21 @@ stopOf most b (e ∷ es) =
           ]
     ]
 
-stop-deep : (most : Limits) (b : List Event) (e : Event) (es : List Event) → over tooDeep most b e ≡ true → stopOf most b (e ∷ es) ≡ some (tooDeep, placeAfter 0 b)
+stop-deep :
+    (most : Limits) (b : List Event) (e : Event) (es : List Event) → over tooDeep most b e ≡ true →
+    stopOf most b (e ∷ es) ≡ some (tooDeep, placeAfter 0 b)
 unfolding stopOf
 stop-deep most b e es deep = rw (deep, stopOf)
 
-stop-full : (most : Limits) (b : List Event) (e : Event) (es : List Event) → over tooDeep most b e ≡ false → over full most b e ≡ true → stopOf most b (e ∷ es) ≡ some (full, placeAfter 0 b)
+stop-full :
+    (most : Limits) (b : List Event) (e : Event) (es : List Event) → over tooDeep most b e ≡ false →
+    over full most b e ≡ true → stopOf most b (e ∷ es) ≡ some (full, placeAfter 0 b)
 unfolding stopOf
 stop-full most b e es not-deep is-full = rw (not-deep, is-full, stopOf)
 
-stop-on : (most : Limits) (b : List Event) (e : Event) (es : List Event) → over tooDeep most b e ≡ false → over full most b e ≡ false → stopOf most b (e ∷ es) ≡ stopOf most (b ++ (e ∷ [])) es
+stop-on :
+    (most : Limits) (b : List Event) (e : Event) (es : List Event) → over tooDeep most b e ≡ false →
+    over full most b e ≡ false → stopOf most b (e ∷ es) ≡ stopOf most (b ++ (e ∷ [])) es
 unfolding stopOf
 stop-on most b e es not-deep not-full = rw (not-deep, not-full, stopOf)
 
@@ -122,7 +128,9 @@ room-or-met n limit h = by (ltb n limit) refl
 
 -- within the limits behind one more event
 module _ (most : Limits) (b : List Event) where
-  within-by : (s : State) (c : List Event) → s ≡ stateOf c → length (s .results) ≤ most .results → length (s .diagnostics) ≤ most .diagnostics → Within most c
+  within-by :
+      (s : State) (c : List Event) → s ≡ stateOf c → length (s .results) ≤ most .results →
+      length (s .diagnostics) ≤ most .diagnostics → Within most c
   within-by s c e f g =
       record {
         results = subst (λ (x : State). length (x .results) ≤ most .results) e f;
@@ -191,7 +199,9 @@ module _ (A : Type 0) (most : Limits) where
           (after b (resolves d) (events t n) all ha)
           (within-resolves most b d w)
 
-      by : (test : Bool) → ltb 64 d ≡ test → run most (resolving d t) s ≡ outOf (stopOf most b (resolves d ∷ events t n)) (answer t n) (stateOf all)
+      by :
+          (test : Bool) → ltb 64 d ≡ test →
+          run most (resolving d t) s ≡ outOf (stopOf most b (resolves d ∷ events t n)) (answer t n) (stateOf all)
       by true deep = rw (stop-deep most b (resolves d) (events t n) deep) (step-out most s d t deep ∙ ap (λ (x : State). stopped tooDeep (x .place)) hs)
       by false not-deep = rw (stop-on most b (resolves d) (events t n) not-deep refl) (step-on most s d t not-deep ∙ rest)
 
@@ -202,7 +212,9 @@ module _ (A : Type 0) (most : Limits) where
       e : withDiagnostic r (stateOf b) ≡ stateOf (b ++ (tells r ∷ []))
       e = state-tells b r
 
-      by : Room (length (told b)) (most .diagnostics) → run most (diagnostic r t) s ≡ outOf (stopOf most b (tells r ∷ events t n)) (answer t n) (stateOf all)
+      by :
+          Room (length (told b)) (most .diagnostics) →
+          run most (diagnostic r t) s ≡ outOf (stopOf most b (tells r ∷ events t n)) (answer t n) (stateOf all)
       by (met below-not is-met) = rw (hs, stop-full most b (tells r) (events t n) refl is-met) (tell-out most (stateOf b) r t below-not)
       by (room below not-met more) =
           rw (hs, stop-on most b (tells r) (events t n) refl not-met)
@@ -224,7 +236,9 @@ module _ (A : Type 0) (most : Limits) where
       e : withResult r (stateOf b) ≡ stateOf (b ++ (writes r ∷ []))
       e = state-writes b r
 
-      by : Room (length (written b)) (most .results) → run most (result r k) s ≡ outOf (stopOf most b (writes r ∷ events (k n) (suc n))) (answer (k n) (suc n)) (stateOf all)
+      by :
+          Room (length (written b)) (most .results) →
+          run most (result r k) s ≡ outOf (stopOf most b (writes r ∷ events (k n) (suc n))) (answer (k n) (suc n)) (stateOf all)
       by (met below-not is-met) = rw (hs, stop-full most b (writes r) (events (k n) (suc n)) refl is-met) (write-out most (stateOf b) r k below-not)
       by (room below not-met more) =
           rw (hs, stop-on most b (writes r) (events (k n) (suc n)) refl not-met)
@@ -262,11 +276,15 @@ is-false false h = refl
 
 module _ (most : Limits) where
   -- the first event that is over a limit is where the events stop
-  stop-here : (c : Stop) (b : List Event) (e : Event) (es : List Event) → over c most b e ≡ true → stopOf most b (e ∷ es) ≡ some (c, placeAfter 0 b)
+  stop-here :
+      (c : Stop) (b : List Event) (e : Event) (es : List Event) → over c most b e ≡ true →
+      stopOf most b (e ∷ es) ≡ some (c, placeAfter 0 b)
   stop-here tooDeep b e es h = stop-deep most b e es h
   stop-here full b e es h = stop-full most b e es (not-both most b e h) h
 
-  stop-there : (c : Stop) (b before rest : List Event) (e : Event) → Fits most (b ++ before) → over c most (b ++ before) e ≡ true → stopOf most b (before ++ (e ∷ rest)) ≡ some (c, placeAfter 0 (b ++ before))
+  stop-there :
+      (c : Stop) (b before rest : List Event) (e : Event) → Fits most (b ++ before) →
+      over c most (b ++ before) e ≡ true → stopOf most b (before ++ (e ∷ rest)) ≡ some (c, placeAfter 0 (b ++ before))
   stop-there c b [] rest e fits h =
       let same : b ++ [] ≡ b = append-nil b in
       rw same (stop-here c b e rest (subst (λ (l : List Event). over c most l e ≡ true) same h))
@@ -324,7 +342,10 @@ module _ (most : Limits) where
   -- what the events come to
   data Comes (b es : List Event) : Type 0 where
     through : stopOf most b es ≡ none → Fits most (b ++ es) → Comes b es
-    stops : (c : Stop) (before rest : List Event) (e : Event) → es ≡ before ++ (e ∷ rest) → over c most (b ++ before) e ≡ true → Fits most (b ++ before) → stopOf most b es ≡ some (c, placeAfter 0 (b ++ before)) → Comes b es
+    stops :
+        (c : Stop) (before rest : List Event) (e : Event) → es ≡ before ++ (e ∷ rest) →
+        over c most (b ++ before) e ≡ true → Fits most (b ++ before) →
+        stopOf most b es ≡ some (c, placeAfter 0 (b ++ before)) → Comes b es
 
   comes : (b es : List Event) → Fits most b → Comes b es
   unfolding stopOf
@@ -369,7 +390,9 @@ module _ (most : Limits) where
           free full = m
 
 -- a lowering from the start is what its events come to
-from-start : (A : Type 0) (most : Limits) (t : Lowering A) → run most t start ≡ outOf (stopOf most [] (events t 0)) (answer t 0) (stateOf (events t 0))
+from-start :
+    (A : Type 0) (most : Limits) (t : Lowering A) →
+    run most t start ≡ outOf (stopOf most [] (events t 0)) (answer t 0) (stateOf (events t 0))
 unfolding placeAfter written told
 from-start A most t = agrees A most t [] 0 start (events t 0) refl refl refl (record { results = omega arith; diagnostics = omega arith })
 
@@ -427,7 +450,9 @@ finished-if-all-fit A most t a s = (λ h. there h (comes most [] (events t 0) (f
     to : Option (Stop × ℕ) → Out A
     to o = outOf o (answer t 0) (stateOf (events t 0))
 
-    there : run most t start ≡ finished a s → Comes most [] (events t 0) → Fits most (events t 0) × (answer t 0 ≡ a) × (s ≡ stateOf (events t 0))
+    there :
+        run most t start ≡ finished a s → Comes most [] (events t 0) →
+        Fits most (events t 0) × (answer t 0 ≡ a) × (s ≡ stateOf (events t 0))
     there h (through q f) =
         let same : finished (answer t 0) (stateOf (events t 0)) ≡ finished a s = sym (from-start A most t ∙ ap to q) ∙ h in
         (f, ap (finalOf a) same, sym (ap finalState same))
@@ -462,7 +487,9 @@ all-within most b (e ∷ es) w f =
     (all-within most (b ++ (e ∷ [])) es (one-within most b e w (f full b es e refl)) (subst (Fits most) (sym same) f))
 
 -- all records that fit are within the limits
-pub fits-within : (most : Limits) (es : List Event) → Fits most es → (length (written es) ≤ most .results) × (length (told es) ≤ most .diagnostics)
+pub fits-within :
+    (most : Limits) (es : List Event) → Fits most es →
+    (length (written es) ≤ most .results) × (length (told es) ≤ most .diagnostics)
 unfolding written told
 fits-within most es fits =
     let w : Within most es = all-within most [] es (record { results = omega arith; diagnostics = omega arith }) fits in

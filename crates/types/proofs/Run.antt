@@ -18,18 +18,26 @@ module _ {A : Type 0} (most : Limits) (s : State) where
   unfolding run
   step-out d t e = rw (e, run)
 
-  pub tell-on : (r : Record) (t : Lowering A) → ltb (length (s .diagnostics)) (most .diagnostics) ≡ true → run most (diagnostic r t) s ≡ run most t (withDiagnostic r s)
+  pub tell-on :
+      (r : Record) (t : Lowering A) → ltb (length (s .diagnostics)) (most .diagnostics) ≡ true →
+      run most (diagnostic r t) s ≡ run most t (withDiagnostic r s)
   unfolding run
   tell-on r t e = rw (e, run)
 
-  pub tell-out : (r : Record) (t : Lowering A) → ltb (length (s .diagnostics)) (most .diagnostics) ≡ false → run most (diagnostic r t) s ≡ stopped full (s .place)
+  pub tell-out :
+      (r : Record) (t : Lowering A) → ltb (length (s .diagnostics)) (most .diagnostics) ≡ false →
+      run most (diagnostic r t) s ≡ stopped full (s .place)
   unfolding run
   tell-out r t e = rw (e, run)
 
-  pub write-on : (r : Record) (k : ℕ → Lowering A) → ltb (length (s .results)) (most .results) ≡ true → run most (result r k) s ≡ run most (k (length (s .results))) (withResult r s)
+  pub write-on :
+      (r : Record) (k : ℕ → Lowering A) → ltb (length (s .results)) (most .results) ≡ true →
+      run most (result r k) s ≡ run most (k (length (s .results))) (withResult r s)
   unfolding run
   write-on r k e = rw (e, run)
 
-  pub write-out : (r : Record) (k : ℕ → Lowering A) → ltb (length (s .results)) (most .results) ≡ false → run most (result r k) s ≡ stopped full (s .place)
+  pub write-out :
+      (r : Record) (k : ℕ → Lowering A) → ltb (length (s .results)) (most .results) ≡ false →
+      run most (result r k) s ≡ stopped full (s .place)
   unfolding run
   write-out r k e = rw (e, run)
