@@ -21,15 +21,30 @@ use Rattle.book.proofs.First.{same, refused-by-the-first, passed-by-all}
 use Rattle.constants.specs.Declared.{settled}
 use Rattle.types.specs.Lowering.{Limits, State, start, Stop, tooDeep, full, stopNumber, Out, finished, stopped, run}
 use Rattle.types.specs.Resolved.{Names}
-use Rattle.types.specs.Events.{events, written, StopsAt, Fits}
-use Rattle.types.proofs.Events.{stopped-by-the-first, finished-if-all-fit, fits-within}
+use Rattle.types.specs.Events.{written, told, placeAfter, behind, StopsAt, Fits}
+use Rattle.types.proofs.Events.{stopped-by-the-first, finished-if-all-fit, fits-nothing, fits-within}
 use Rattle.types.specs.Step.{isStored}
 use Rattle.bodies.specs.Constant.{storedCount}
-use Rattle.lower.specs.LowerBook.{Reply, accepted, refused, Lowered, lowerBook, lowerRead, lowerRecords, usedLimits, ended}
-use Rattle.lower.specs.Laws.{Leaves, SlicesAreLeft}
+use Rattle.lower.specs.LowerBook.{Reply, accepted, refused, Lowered, lowerBook, lowerRead, lowerRecords, usedLimits, withRecords, ended}
+use Rattle.lower.specs.Laws.{firstRecords, Leaves, SlicesAreLeft}
 use Rattle.lower.proofs.Written.{written-within, stored-are-counted}
 use Rattle.lower.proofs.Slices.{room-in-bytes, records-kept, is-cleared, read-back}
 use Rattle.lower.specs.Laws.{NoRowHolds, doings, RefusedByItsRow, StoppedByItsRow, IsAccepted, AcceptedByNone}
+
+-- from the start on
+module _ (most : Limits) (book : List ℕ) where
+  stops-if : (c : Stop) (p : ℕ) → (run most (lowerRecords (read book)) start ≡ stopped c p) ↔ StopsAt most [] (doings book) c p
+  unfolding placeAfter written told
+  stops-if c p = stopped-by-the-first (Unit × Names) most [] (lowerRecords (read book)) c p (fits-nothing most)
+
+  ends-if :
+      (a : Unit × Names) (s : State) →
+      run most (lowerRecords (read book)) start ≡ finished a s →
+      Fits most (doings book) × (s ≡ behind (doings book))
+  unfolding placeAfter written told
+  ends-if a s h =
+      let x = finished-if-all-fit (Unit × Names) most [] (lowerRecords (read book)) a s (fits-nothing most) .0 h in
+      (x .0, x .2)
 
 -- a reply's number and place; 0 for accepted
 abbrev replyNumber : Reply → ℕ
@@ -140,13 +155,12 @@ refused-by-its-row book results diagnostics x = (λ h. there h (goes book result
 pub stopped-by-its-row : StoppedByItsRow
 stopped-by-its-row book results diagnostics c p = (λ h. there h (goes book results diagnostics), back)
   where
-    to :
-        run (usedLimits results diagnostics) (lowerRecords (read book)) start ≡ stopped c p ↔ StopsAt (usedLimits results diagnostics) (doings book) c p
-    to = stopped-by-the-first (Unit × Names) (usedLimits results diagnostics) (lowerRecords (read book)) c p
+    to : (run (usedLimits results diagnostics) (lowerRecords (read book)) start ≡ stopped c p) ↔ StopsAt (usedLimits results diagnostics) [] (doings book) c p
+    to = stops-if (usedLimits results diagnostics) book c p
 
     there :
         (lowerBook book results diagnostics) .reply ≡ refused (stopNumber c) p → Goes book results diagnostics →
-        NoRowHolds book × StopsAt (usedLimits results diagnostics) (doings book) c p
+        NoRowHolds book × StopsAt (usedLimits results diagnostics) [] (doings book) c p
     there h (turned-back y e) =
         let is : number (y .cause) ≡ stopNumber c = ap replyNumber (sym (reply-refused book results diagnostics y e) ∙ h) in
         absurd (omega (arith, stop-range c, number-range (y .cause)))
@@ -158,7 +172,7 @@ stopped-by-its-row book results diagnostics c p = (λ h. there h (goes book resu
         absurd (omega (arith, stop-range c))
 
     back :
-        NoRowHolds book × StopsAt (usedLimits results diagnostics) (doings book) c p →
+        NoRowHolds book × StopsAt (usedLimits results diagnostics) [] (doings book) c p →
         (lowerBook book results diagnostics) .reply ≡ refused (stopNumber c) p
     back x = reply-stopped book results diagnostics c p (passed-by-all book .1 (x .0)) (to .1 (x .1))
 
@@ -176,7 +190,7 @@ accepted-by-none book results diagnostics = (λ x. there x (goes book results di
         absurd (omega (arith, stop-range c))
     there x (ends a s e q) = (
       passed-by-all book .0 e,
-      finished-if-all-fit (Unit × Names) (usedLimits results diagnostics) (lowerRecords (read book)) a s .0 q .0,
+      ends-if (usedLimits results diagnostics) book a s q .0,
     )
 
     back : NoRowHolds book × Fits (usedLimits results diagnostics) (doings book) → IsAccepted (lowerBook book results diagnostics)
@@ -189,8 +203,8 @@ accepted-by-none book results diagnostics = (λ x. there x (goes book results di
             is-first = refused-by-the-first book y .0 e
         by (stops c p e q) = absurd (x .1 c (at .before) (at .rest) (at .event) (at .split) (at .holds))
           where
-            at : StopsAt (usedLimits results diagnostics) (doings book) c p
-            at = stopped-by-the-first (Unit × Names) (usedLimits results diagnostics) (lowerRecords (read book)) c p .0 q
+            at : StopsAt (usedLimits results diagnostics) [] (doings book) c p
+            at = stops-if (usedLimits results diagnostics) book c p .0 q
         by (ends a s e q) =
             record {
               results = length (s .results);
@@ -202,25 +216,36 @@ accepted-by-none book results diagnostics = (λ x. there x (goes book results di
 -- what is left in the slices
 module _ (book results diagnostics : List ℕ) where
   abbrev Left : Lowered → Type 0
-  Left x = Leaves results diagnostics x (x .reply)
+  Left x = Leaves book results diagnostics x (x .reply)
 
   left-refused :
       (x : Refusal) →
       Left (record { reply = refused (number (x .cause)) (x .place); results = results; diagnostics = diagnostics })
   unfolding Leaves
-  left-refused x = (λ h. (refl, refl), λ h. absurd (omega (arith, number-range (x .cause))))
+  left-refused x =
+      (λ h. record { in-results = refl; in-diagnostics = refl }, λ h. absurd (omega (arith, number-range (x .cause))))
 
   left-stopped :
       (c : Stop) (p : ℕ) →
-      Left (ended {A = Unit × Names} (storedCount (settled (read book))) (usedLimits results diagnostics) results diagnostics (stopped c p))
+      Left
+      (ended
+      {A = Unit × Names}
+      (storedCount (settled (read book)))
+      (usedLimits results diagnostics)
+      results
+      diagnostics
+      (stopped c p))
   unfolding Leaves ended usedLimits
-  left-stopped c p = (
-    λ h. absurd (omega (arith, stop-range c)),
-    λ h. (
-      is-cleared (roomFor 2048 results) results (room-in-bytes 2048 results (roomFor 2048 results) (omega arith)),
-      is-cleared (roomFor 256 diagnostics) diagnostics (room-in-bytes 256 diagnostics (roomFor 256 diagnostics) (omega arith)),
-    ),
-  )
+  left-stopped c p =
+      let r : 24 * roomFor 2048 results ≤ length results = room-in-bytes 2048 results (roomFor 2048 results) (omega arith) in
+      let d : 24 * roomFor 256 diagnostics ≤ length diagnostics = room-in-bytes 256 diagnostics (roomFor 256 diagnostics) (omega arith) in (
+        λ h. absurd (omega (arith, stop-range c)),
+        λ h.
+            record {
+              in-results = is-cleared (roomFor 2048 results) results r;
+              in-diagnostics = is-cleared (roomFor 256 diagnostics) diagnostics d;
+            },
+      )
 
   left-accepted :
       AreBytes book →
@@ -230,19 +255,27 @@ module _ (book results diagnostics : List ℕ) where
       Left (ended (storedCount (settled (read book))) (usedLimits results diagnostics) results diagnostics (finished a s))
   unfolding Leaves ended usedLimits
   left-accepted bytes e a s h =
-      let fit = finished-if-all-fit (Unit × Names) (usedLimits results diagnostics) (lowerRecords (read book)) a s .0 h in
+      let fit = ends-if (usedLimits results diagnostics) book a s h in
       let in-limits = fits-within (usedLimits results diagnostics) (doings book) (fit .0) in
-      let r : length (s .results) ≤ roomFor 2048 results = rw (fit .2) (in-limits .0) in
-      let d : length (s .diagnostics) ≤ roomFor 256 diagnostics = rw (fit .2) (in-limits .1) in
+      let rs : s .results ≡ written (doings book) = ap (λ (x : State). x .results) (fit .1) in
+      let ds : s .diagnostics ≡ told (doings book) = ap (λ (x : State). x .diagnostics) (fit .1) in
+      let r : length (s .results) ≤ roomFor 2048 results = rw rs (in-limits .0) in
+      let d : length (s .diagnostics) ≤ roomFor 256 diagnostics = rw ds (in-limits .1) in
       let within = written-within book (usedLimits results diagnostics) a s bytes e (omega arith) h in
-      let same : s .results ≡ written (doings book) = ap (λ (x : State). x .results) (fit .2) in (
-        r,
-        d,
-        records-kept (s .results) results (room-in-bytes 2048 results (length (s .results)) r),
-        records-kept (s .diagnostics) diagnostics (room-in-bytes 256 diagnostics (length (s .diagnostics)) d),
-        sym (stored-are-counted (read book))
-            ∙ ap (λ (l : List Record). length (keep isStored l)) (sym same ∙ sym (read-back (s .results) results (within .0))),
-      )
+      let back : firstRecords (length (s .results)) (withRecords (s .results) results) ≡ s .results = read-back (s .results) results (within .0) in
+      record {
+        results-are = back ∙ rs;
+        results-count = ap length rs;
+        results-limit = r;
+        results-rest = records-kept (s .results) results (room-in-bytes 2048 results (length (s .results)) r);
+        diagnostics-are = read-back (s .diagnostics) diagnostics (within .1) ∙ ds;
+        diagnostics-count = ap length ds;
+        diagnostics-limit = d;
+        diagnostics-rest = records-kept (s .diagnostics) diagnostics (room-in-bytes 256 diagnostics (length (s .diagnostics)) d);
+        stored-count =
+            sym (stored-are-counted (read book))
+            ∙ ap (λ (l : List Record). length (keep isStored l)) (sym rs ∙ sym back);
+      }
 
   left : AreBytes book → Left (lowerBook book results diagnostics)
   left bytes = by (goes book results diagnostics)

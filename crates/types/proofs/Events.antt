@@ -14,7 +14,7 @@ use borrow.Author.Tests.{ltb-true, ltb-false, eqb-true, eq-eqb, ne-eqb}
 use Rattle.record.specs.declared.Record.{Record}
 use Rattle.types.specs.Lowering.{Lowering, done, lowering, resolving, diagnostic, result, Limits, State, start, moved, withResult, withDiagnostic}
 use Rattle.types.specs.Lowering.{Stop, tooDeep, full, Out, finished, stopped, run}
-use Rattle.types.specs.Events.{Event, lowers, resolves, tells, writes, events, answer, written, told, placeAfter, over, Fits, StopsAt}
+use Rattle.types.specs.Events.{Event, lowers, resolves, tells, writes, events, answer, written, told, placeAfter, over, Fits, behind, StopsAt}
 use Rattle.types.proofs.Run.{step-on, step-out, tell-on, tell-out, write-on, write-out}
 use Rattle.types.specs.Events.{StoppedByTheFirst, FinishedIfAllFit}
 
@@ -42,27 +42,23 @@ place-append p (resolves d ∷ x) y = place-append p x y
 place-append p (tells r ∷ x) y = place-append p x y
 place-append p (writes r ∷ x) y = place-append p x y
 
--- the state behind some events
-abbrev stateOf : List Event → State
-stateOf b = record { place = placeAfter 0 b; results = written b; diagnostics = told b }
-
--- and behind one more
-state-lowers : (b : List Event) (p : ℕ) → moved p (stateOf b) ≡ stateOf (b ++ (lowers p ∷ []))
+-- the state behind one event more
+state-lowers : (b : List Event) (p : ℕ) → moved p (behind b) ≡ behind (b ++ (lowers p ∷ []))
 unfolding written told placeAfter
 state-lowers b p =
     rw (written-append b (lowers p ∷ []), told-append b (lowers p ∷ []), place-append 0 b (lowers p ∷ []), append-nil (written b), append-nil (told b))
 
-state-resolves : (b : List Event) (d : ℕ) → stateOf b ≡ stateOf (b ++ (resolves d ∷ []))
+state-resolves : (b : List Event) (d : ℕ) → behind b ≡ behind (b ++ (resolves d ∷ []))
 unfolding written told placeAfter
 state-resolves b d =
     rw (written-append b (resolves d ∷ []), told-append b (resolves d ∷ []), place-append 0 b (resolves d ∷ []), append-nil (written b), append-nil (told b))
 
-state-tells : (b : List Event) (r : Record) → withDiagnostic r (stateOf b) ≡ stateOf (b ++ (tells r ∷ []))
+state-tells : (b : List Event) (r : Record) → withDiagnostic r (behind b) ≡ behind (b ++ (tells r ∷ []))
 unfolding written told placeAfter
 state-tells b r =
     rw (written-append b (tells r ∷ []), told-append b (tells r ∷ []), place-append 0 b (tells r ∷ []), append-nil (written b))
 
-state-writes : (b : List Event) (r : Record) → withResult r (stateOf b) ≡ stateOf (b ++ (writes r ∷ []))
+state-writes : (b : List Event) (r : Record) → withResult r (behind b) ≡ behind (b ++ (writes r ∷ []))
 unfolding written told placeAfter
 state-writes b r =
     rw (written-append b (writes r ∷ []), told-append b (writes r ∷ []), place-append 0 b (writes r ∷ []), append-nil (told b))
@@ -129,7 +125,7 @@ room-or-met n limit h = by (ltb n limit) refl
 -- within the limits behind one more event
 module _ (most : Limits) (b : List Event) where
   within-by :
-      (s : State) (c : List Event) → s ≡ stateOf c → length (s .results) ≤ most .results →
+      (s : State) (c : List Event) → s ≡ behind c → length (s .results) ≤ most .results →
       length (s .diagnostics) ≤ most .diagnostics → Within most c
   within-by s c e f g =
       record {
@@ -138,26 +134,26 @@ module _ (most : Limits) (b : List Event) where
       }
 
   within-lowers : (p : ℕ) → Within most b → Within most (b ++ (lowers p ∷ []))
-  within-lowers p w = within-by (moved p (stateOf b)) (b ++ (lowers p ∷ [])) (state-lowers b p) (w .results) (w .diagnostics)
+  within-lowers p w = within-by (moved p (behind b)) (b ++ (lowers p ∷ [])) (state-lowers b p) (w .results) (w .diagnostics)
 
   within-resolves : (d : ℕ) → Within most b → Within most (b ++ (resolves d ∷ []))
-  within-resolves d w = within-by (stateOf b) (b ++ (resolves d ∷ [])) (state-resolves b d) (w .results) (w .diagnostics)
+  within-resolves d w = within-by (behind b) (b ++ (resolves d ∷ [])) (state-resolves b d) (w .results) (w .diagnostics)
 
   within-tells : (r : Record) → Within most b → suc (length (told b)) ≤ most .diagnostics → Within most (b ++ (tells r ∷ []))
-  within-tells r w h = within-by (withDiagnostic r (stateOf b)) (b ++ (tells r ∷ [])) (state-tells b r) (w .results) (rw (one-more (told b) r) h)
+  within-tells r w h = within-by (withDiagnostic r (behind b)) (b ++ (tells r ∷ [])) (state-tells b r) (w .results) (rw (one-more (told b) r) h)
 
   within-writes : (r : Record) → Within most b → suc (length (written b)) ≤ most .results → Within most (b ++ (writes r ∷ []))
-  within-writes r w h = within-by (withResult r (stateOf b)) (b ++ (writes r ∷ [])) (state-writes b r) (rw (one-more (written b) r) h) (w .diagnostics)
+  within-writes r w h = within-by (withResult r (behind b)) (b ++ (writes r ∷ [])) (state-writes b r) (rw (one-more (written b) r) h) (w .diagnostics)
 
 module _ (A : Type 0) (most : Limits) where
   abbrev Agrees : Lowering A → Type 0
   Agrees t =
       (b : List Event) (n : ℕ) (s : State) (all : List Event) →
-      s ≡ stateOf b →
+      s ≡ behind b →
       n ≡ length (written b) →
       all ≡ b ++ events t n →
       Within most b →
-      run most t s ≡ outOf (stopOf most b (events t n)) (answer t n) (stateOf all)
+      run most t s ≡ outOf (stopOf most b (events t n)) (answer t n) (behind all)
 
   after : (b : List Event) (e : Event) (es all : List Event) → all ≡ b ++ (e ∷ es) → all ≡ (b ++ (e ∷ [])) ++ es
   after b e es all h = h ∙ sym (append-assoc b (e ∷ []) es)
@@ -169,7 +165,7 @@ module _ (A : Type 0) (most : Limits) where
   agrees-lowering : (p : ℕ) (t : Lowering A) → Agrees t → Agrees (lowering p t)
   unfolding run events answer stopOf over
   agrees-lowering p t ih b n s all hs hn ha w =
-      let e : moved p (stateOf b) ≡ stateOf (b ++ (lowers p ∷ [])) = state-lowers b p in
+      let e : moved p (behind b) ≡ behind (b ++ (lowers p ∷ [])) = state-lowers b p in
       ih
       (b ++ (lowers p ∷ []))
       n
@@ -184,10 +180,10 @@ module _ (A : Type 0) (most : Limits) where
   unfolding run events answer stopOf over
   agrees-resolving d t ih b n s all hs hn ha w = by (ltb 64 d) refl
     where
-      e : stateOf b ≡ stateOf (b ++ (resolves d ∷ []))
+      e : behind b ≡ behind (b ++ (resolves d ∷ []))
       e = state-resolves b d
 
-      rest : run most t s ≡ outOf (stopOf most (b ++ (resolves d ∷ [])) (events t n)) (answer t n) (stateOf all)
+      rest : run most t s ≡ outOf (stopOf most (b ++ (resolves d ∷ [])) (events t n)) (answer t n) (behind all)
       rest =
           ih
           (b ++ (resolves d ∷ []))
@@ -201,7 +197,7 @@ module _ (A : Type 0) (most : Limits) where
 
       by :
           (test : Bool) → ltb 64 d ≡ test →
-          run most (resolving d t) s ≡ outOf (stopOf most b (resolves d ∷ events t n)) (answer t n) (stateOf all)
+          run most (resolving d t) s ≡ outOf (stopOf most b (resolves d ∷ events t n)) (answer t n) (behind all)
       by true deep = rw (stop-deep most b (resolves d) (events t n) deep) (step-out most s d t deep ∙ ap (λ (x : State). stopped tooDeep (x .place)) hs)
       by false not-deep = rw (stop-on most b (resolves d) (events t n) not-deep refl) (step-on most s d t not-deep ∙ rest)
 
@@ -209,20 +205,20 @@ module _ (A : Type 0) (most : Limits) where
   unfolding run events answer stopOf over
   agrees-diagnostic r t ih b n s all hs hn ha w = by (room-or-met (length (told b)) (most .diagnostics) (w .diagnostics))
     where
-      e : withDiagnostic r (stateOf b) ≡ stateOf (b ++ (tells r ∷ []))
+      e : withDiagnostic r (behind b) ≡ behind (b ++ (tells r ∷ []))
       e = state-tells b r
 
       by :
           Room (length (told b)) (most .diagnostics) →
-          run most (diagnostic r t) s ≡ outOf (stopOf most b (tells r ∷ events t n)) (answer t n) (stateOf all)
-      by (met below-not is-met) = rw (hs, stop-full most b (tells r) (events t n) refl is-met) (tell-out most (stateOf b) r t below-not)
+          run most (diagnostic r t) s ≡ outOf (stopOf most b (tells r ∷ events t n)) (answer t n) (behind all)
+      by (met below-not is-met) = rw (hs, stop-full most b (tells r) (events t n) refl is-met) (tell-out most (behind b) r t below-not)
       by (room below not-met more) =
           rw (hs, stop-on most b (tells r) (events t n) refl not-met)
-          (tell-on most (stateOf b) r t below
+          (tell-on most (behind b) r t below
           ∙ ih
           (b ++ (tells r ∷ []))
           n
-          (withDiagnostic r (stateOf b))
+          (withDiagnostic r (behind b))
           all
           e
           (hn ∙ ap (λ (x : State). length (x .results)) e)
@@ -233,22 +229,22 @@ module _ (A : Type 0) (most : Limits) where
   unfolding run events answer stopOf over
   agrees-result r k ih b n s all hs hn ha w = by (room-or-met (length (written b)) (most .results) (w .results))
     where
-      e : withResult r (stateOf b) ≡ stateOf (b ++ (writes r ∷ []))
+      e : withResult r (behind b) ≡ behind (b ++ (writes r ∷ []))
       e = state-writes b r
 
       by :
           Room (length (written b)) (most .results) →
-          run most (result r k) s ≡ outOf (stopOf most b (writes r ∷ events (k n) (suc n))) (answer (k n) (suc n)) (stateOf all)
-      by (met below-not is-met) = rw (hs, stop-full most b (writes r) (events (k n) (suc n)) refl is-met) (write-out most (stateOf b) r k below-not)
+          run most (result r k) s ≡ outOf (stopOf most b (writes r ∷ events (k n) (suc n))) (answer (k n) (suc n)) (behind all)
+      by (met below-not is-met) = rw (hs, stop-full most b (writes r) (events (k n) (suc n)) refl is-met) (write-out most (behind b) r k below-not)
       by (room below not-met more) =
           rw (hs, stop-on most b (writes r) (events (k n) (suc n)) refl not-met)
-          (write-on most (stateOf b) r k below
-          ∙ ap (λ (m : ℕ). run most (k m) (withResult r (stateOf b))) (sym hn)
+          (write-on most (behind b) r k below
+          ∙ ap (λ (m : ℕ). run most (k m) (withResult r (behind b))) (sym hn)
           ∙ ih
           n
           (b ++ (writes r ∷ []))
           (suc n)
-          (withResult r (stateOf b))
+          (withResult r (behind b))
           all
           e
           (ap suc hn ∙ sym (one-more (written b) r) ∙ ap (λ (x : State). length (x .results)) e)
@@ -328,7 +324,7 @@ module _ {E : Type 0} where
       further (inr q) = inr (q .0, cc (same, q .1))
 
 module _ (most : Limits) where
-  fits-nothing : Fits most []
+  pub fits-nothing : Fits most []
   fits-nothing c [] rest e h = absurd (nil≢cons h)
   fits-nothing c (y ∷ ys) rest e h = absurd (nil≢cons h)
 
@@ -389,78 +385,6 @@ module _ (most : Limits) where
           free tooDeep = d
           free full = m
 
--- a lowering from the start is what its events come to
-from-start :
-    (A : Type 0) (most : Limits) (t : Lowering A) →
-    run most t start ≡ outOf (stopOf most [] (events t 0)) (answer t 0) (stateOf (events t 0))
-unfolding placeAfter written told
-from-start A most t = agrees A most t [] 0 start (events t 0) refl refl refl (record { results = omega arith; diagnostics = omega arith })
-
-abbrev isStopped : {A : Type 0} → Out A → Bool
-isStopped (finished a s) = false
-isStopped (stopped c p) = true
-
-abbrev causeOf : {A : Type 0} → Out A → Stop
-causeOf (finished a s) = full
-causeOf (stopped c p) = c
-
-abbrev placeOf : {A : Type 0} → Out A → ℕ
-placeOf (finished a s) = 0
-placeOf (stopped c p) = p
-
-pub stopped-by-the-first : StoppedByTheFirst
-stopped-by-the-first A most t c p = (λ h. there h (comes most [] (events t 0) (fits-nothing most)), back)
-  where
-    there : run most t start ≡ stopped c p → Comes most [] (events t 0) → StopsAt most (events t 0) c p
-    there h (through q f) = absurd (true≢false (ap isStopped (sym h ∙ from-start A most t ∙ ap (λ o. outOf o (answer t 0) (stateOf (events t 0))) q)))
-    there h (stops d before rest e q is-over f out) =
-        let same : Path (Out A) (stopped d (placeAfter 0 before)) (stopped c p) = sym (from-start A most t ∙ ap (λ o. outOf o (answer t 0) (stateOf (events t 0))) out) ∙ h in
-        record {
-          before = before;
-          event = e;
-          rest = rest;
-          split = q;
-          holds = subst (λ (x : Stop). over x most before e ≡ true) (ap causeOf same) is-over;
-          first = f;
-          place = ap placeOf same;
-        }
-
-    back : StopsAt most (events t 0) c p → run most t start ≡ stopped c p
-    back x =
-        from-start A most t
-        ∙ ap
-        (λ o. outOf o (answer t 0) (stateOf (events t 0)))
-        (ap (stopOf most []) (x .split) ∙ stop-there most c [] (x .before) (x .rest) (x .event) (x .first) (x .holds))
-        ∙ ap (λ q. stopped c q) (x .place)
-
-abbrev finalOf : {A : Type 0} → A → Out A → A
-finalOf d (finished a s) = a
-finalOf d (stopped c p) = d
-
-abbrev finalState : {A : Type 0} → Out A → State
-finalState (finished a s) = s
-finalState (stopped c p) = start
-
-pub finished-if-all-fit : FinishedIfAllFit
-finished-if-all-fit A most t a s = (λ h. there h (comes most [] (events t 0) (fits-nothing most)), back)
-  where
-    all : List Event
-    all = events t 0
-
-    to : Option (Stop × ℕ) → Out A
-    to o = outOf o (answer t 0) (stateOf (events t 0))
-
-    there :
-        run most t start ≡ finished a s → Comes most [] (events t 0) →
-        Fits most (events t 0) × (answer t 0 ≡ a) × (s ≡ stateOf (events t 0))
-    there h (through q f) =
-        let same : finished (answer t 0) (stateOf (events t 0)) ≡ finished a s = sym (from-start A most t ∙ ap to q) ∙ h in
-        (f, ap (finalOf a) same, sym (ap finalState same))
-    there h (stops d before rest e q is-over f out) = absurd (true≢false (ap isStopped (sym (from-start A most t ∙ ap to out) ∙ h)))
-
-    back : Fits most (events t 0) × (answer t 0 ≡ a) × (s ≡ stateOf (events t 0)) → run most t start ≡ finished a s
-    back x = from-start A most t ∙ ap to (stop-nowhere most [] (events t 0) (x .0)) ∙ rw (x .1, x .2)
-
 -- one event that is not over a limit
 one-within : (most : Limits) (b : List Event) (e : Event) → Within most b → (over full most b e ≡ true → ⊥) → Within most (b ++ (e ∷ []))
 unfolding over
@@ -486,11 +410,104 @@ all-within most b (e ∷ es) w f =
     same
     (all-within most (b ++ (e ∷ [])) es (one-within most b e w (f full b es e refl)) (subst (Fits most) (sym same) f))
 
+fitting : (most : Limits) (es : List Event) → Fits most es → Within most es
+unfolding written told
+fitting most es fits = all-within most [] es (record { results = omega arith; diagnostics = omega arith }) fits
+
 -- all records that fit are within the limits
 pub fits-within :
     (most : Limits) (es : List Event) → Fits most es →
     (length (written es) ≤ most .results) × (length (told es) ≤ most .diagnostics)
-unfolding written told
-fits-within most es fits =
-    let w : Within most es = all-within most [] es (record { results = omega arith; diagnostics = omega arith }) fits in
-    (w .results, w .diagnostics)
+fits-within most es fits = (fitting most es fits .results, fitting most es fits .diagnostics)
+
+-- a lowering behind some events is what its own events come to
+module _ (A : Type 0) (most : Limits) (b : List Event) (t : Lowering A) (fits : Fits most b) where
+  abbrev own : List Event
+  own = events t (length (written b))
+
+  to : Option (Stop × ℕ) → Out A
+  to o = outOf o (answer t (length (written b))) (behind (b ++ own))
+
+  run-is : run most t (behind b) ≡ to (stopOf most b own)
+  unfolding to
+  run-is = agrees A most t b (length (written b)) (behind b) (b ++ own) refl refl refl (fitting most b fits)
+
+abbrev isStopped : {A : Type 0} → Out A → Bool
+isStopped (finished a s) = false
+isStopped (stopped c p) = true
+
+abbrev causeOf : {A : Type 0} → Out A → Stop
+causeOf (finished a s) = full
+causeOf (stopped c p) = c
+
+abbrev placeOf : {A : Type 0} → Out A → ℕ
+placeOf (finished a s) = 0
+placeOf (stopped c p) = p
+
+pub stopped-by-the-first : StoppedByTheFirst
+unfolding to
+stopped-by-the-first A most b t c p fits = (λ h. there h (comes most b es fits), back)
+  where
+    es : List Event
+    es = events t (length (written b))
+
+    is : run most t (behind b) ≡ to A most b t fits (stopOf most b (events t (length (written b))))
+    is = run-is A most b t fits
+
+    there : run most t (behind b) ≡ stopped c p → Comes most b es → StopsAt most b (events t (length (written b))) c p
+    there h (through q f) = absurd (true≢false (ap isStopped (sym h ∙ is ∙ ap (to A most b t fits) q)))
+    there h (stops d before rest e q is-over f out) =
+        let same : Path (Out A) (stopped d (placeAfter 0 (b ++ before))) (stopped c p) = sym (is ∙ ap (to A most b t fits) out) ∙ h in
+        record {
+          before = before;
+          event = e;
+          rest = rest;
+          split = q;
+          holds = subst (λ (x : Stop). over x most (b ++ before) e ≡ true) (ap causeOf same) is-over;
+          first = f;
+          place = ap placeOf same;
+        }
+
+    back : StopsAt most b (events t (length (written b))) c p → run most t (behind b) ≡ stopped c p
+    back x =
+        is
+        ∙ ap
+        (to A most b t fits)
+        (ap (stopOf most b) (x .split) ∙ stop-there most c b (x .before) (x .rest) (x .event) (x .first) (x .holds))
+        ∙ ap (λ q. stopped c q) (x .place)
+
+abbrev finalOf : {A : Type 0} → A → Out A → A
+finalOf d (finished a s) = a
+finalOf d (stopped c p) = d
+
+abbrev finalState : {A : Type 0} → State → Out A → State
+finalState d (finished a s) = s
+finalState d (stopped c p) = d
+
+pub finished-if-all-fit : FinishedIfAllFit
+unfolding to
+finished-if-all-fit A most b t a s fits = (λ h. there h (comes most b es fits), back)
+  where
+    es : List Event
+    es = events t (length (written b))
+
+    is : run most t (behind b) ≡ to A most b t fits (stopOf most b (events t (length (written b))))
+    is = run-is A most b t fits
+
+    there :
+        run most t (behind b) ≡ finished a s →
+        Comes most b es →
+        Fits most (b ++ events t (length (written b)))
+        × (answer t (length (written b)) ≡ a)
+        × (s ≡ behind (b ++ events t (length (written b))))
+    there h (through q f) =
+        let same : Path (Out A) (finished (answer t (length (written b))) (behind (b ++ es))) (finished a s) = sym (is ∙ ap (to A most b t fits) q) ∙ h in
+        (f, ap (finalOf a) same, sym (ap (finalState s) same))
+    there h (stops d before rest e q is-over f out) = absurd (true≢false (ap isStopped (sym (is ∙ ap (to A most b t fits) out) ∙ h)))
+
+    back :
+        Fits most (b ++ events t (length (written b)))
+        × (answer t (length (written b)) ≡ a)
+        × (s ≡ behind (b ++ events t (length (written b)))) →
+        run most t (behind b) ≡ finished a s
+    back x = is ∙ ap (to A most b t fits) (stop-nowhere most b es (x .0)) ∙ rw (x .1, x .2)

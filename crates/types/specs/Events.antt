@@ -9,7 +9,7 @@ use mathlib.Core.Path.{_≡_}
 use lib.Dec.{ltb, eqb}
 use lib.ListN.{length}
 use Rattle.record.specs.declared.Record.{Record}
-use Rattle.types.specs.Lowering.{Lowering, done, lowering, resolving, diagnostic, result, Limits, State, start, andThen}
+use Rattle.types.specs.Lowering.{Lowering, done, lowering, resolving, diagnostic, result, Limits, State, andThen}
 use Rattle.types.specs.Lowering.{Stop, tooDeep, full, Out, finished, stopped, run}
 
 -- one thing that a lowering does
@@ -74,37 +74,35 @@ abbrev pub Fits : Limits → List Event → Type 0
 Fits most es =
     (c : Stop) (before rest : List Event) (e : Event) → es ≡ before ++ (e ∷ rest) → over c most before e ≡ true → ⊥
 
--- the row of c holds of an event of the list, at place p, and none holds of an earlier one: "first met"
-pub record StopsAt (most : Limits) (es : List Event) (c : Stop) (p : ℕ) : Type 0 where
+-- the state behind some events
+abbrev pub behind : List Event → State
+behind es = record { place = placeAfter 0 es; results = written es; diagnostics = told es }
+
+-- behind the events b, the row of c holds of an event of the list es, at place p, and none holds of an earlier one: "first met"
+pub record StopsAt (most : Limits) (b es : List Event) (c : Stop) (p : ℕ) : Type 0 where
   pub before : List Event
   pub event : Event
   pub rest : List Event
   pub split : es ≡ before ++ (event ∷ rest)
-  pub holds : over c most before event ≡ true
-  pub first : Fits most before
-  pub place : placeAfter 0 before ≡ p
+  pub holds : over c most (b ++ before) event ≡ true
+  pub first : Fits most (b ++ before)
+  pub place : placeAfter 0 (b ++ before) ≡ p
 
--- refused by 9 or 10 at a place exactly if its row holds there first
+-- refused by 9 or 10 at a place exactly if its row holds there first: of any lowering, behind any events that fit
 abbrev pub StoppedByTheFirst : Type 1
 StoppedByTheFirst =
-    (A : Type 0) (most : Limits) (t : Lowering A) (c : Stop) (p : ℕ) →
-    (run most t start ≡ stopped c p) ↔ StopsAt most (events t 0) c p
+    (A : Type 0) (most : Limits) (b : List Event) (t : Lowering A) (c : Stop) (p : ℕ) →
+    Fits most b → (run most t (behind b) ≡ stopped c p) ↔ StopsAt most b (events t (length (written b))) c p
 
 -- finished exactly if no row holds, with what the events write and tell
 abbrev pub FinishedIfAllFit : Type 1
 FinishedIfAllFit =
-    (A : Type 0) (most : Limits) (t : Lowering A) (a : A) (s : State) →
-    (run most t start ≡ finished a s) ↔ (
-    Fits most (events t 0)
-    × (answer t 0 ≡ a)
-    × (
-    s ≡
-    record {
-      place = placeAfter 0 (events t 0);
-      results = written (events t 0);
-      diagnostics = told (events t 0);
-    }
-    )
+    (A : Type 0) (most : Limits) (b : List Event) (t : Lowering A) (a : A) (s : State) →
+    Fits most b →
+    (run most t (behind b) ≡ finished a s) ↔ (
+    Fits most (b ++ events t (length (written b)))
+    × (answer t (length (written b)) ≡ a)
+    × (s ≡ behind (b ++ events t (length (written b))))
     )
 
 -- What a lowering adds, from any state on: the records that its events write and tell, behind those that are there, and within the limits
