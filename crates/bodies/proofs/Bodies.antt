@@ -1,7 +1,7 @@
 -- Constraints, encodings, messages, unions and newtypes: the records written are within their widths, if the book's are, and none is a 41.
 -- Assumes nothing.
 use Prim.Native.Nat.{ℕ, zero, suc, _^_, _<_}
-use mathlib.Core.Bool.{Bool, true, false, cond, _&&_, not as opposite}
+use mathlib.Core.Bool.{Bool, true, false, cond, _&&_, not}
 use mathlib.Core.List.{List, [], _∷_}
 use mathlib.Core.Option.{Option, some, none}
 use mathlib.Core.Path.{_≡_, refl}
@@ -19,7 +19,7 @@ use Rattle.types.specs.Step.{Step, give}
 use Rattle.types.specs.Numbers.{typeDeclarations}
 use Rattle.types.proofs.Steps.{Below, Fine, Keeps, keeps-give, keeps-at, keeps-emit, keeps-then, keeps-next, keeps-each}
 use Rattle.types.proofs.Resolving.{within, keeps-type}
-use Rattle.bodies.specs.Constraint.{WhereExpr, andOr, not, compare, range, operand, whereExpr, lowerWhereBy, lowerWhereExpr}
+use Rattle.bodies.specs.Constraint.{WhereExpr, andOr, negated, compare, range, operand, whereExpr, lowerWhereBy, lowerWhereExpr}
 use Rattle.bodies.specs.Encoding.{Encoding, default, varint, zigzag, FieldEncoding, Inner, notEligible, hadBefore, over}
 use Rattle.bodies.specs.Encoding.{isKeylessNumber, limitIn, computeFieldEncoding}
 use Rattle.bodies.specs.Encoding.{deltaInner, underDelta, encodingNumber, encodingRecord}
@@ -29,7 +29,7 @@ use Rattle.bodies.specs.Bodies.{lowerMessage, lowerUnion, lowerNewtype, 
 -- a constraint or operand record
 abbrev SizedWhere : WhereExpr → Type 0
 SizedWhere (andOr p a b) = p < 2 ^ 8
-SizedWhere (not a) = Unit
+SizedWhere (negated a) = Unit
 SizedWhere (compare p a c) = (p < 2 ^ 8) × (c < 2 ^ 16)
 SizedWhere (range p a b c) = (p < 2 ^ 8) × (c < 2 ^ 16)
 SizedWhere (operand p a v) = (p < 2 ^ 8) × (a < 2 ^ 16) × (v < 2 ^ 64)
@@ -50,7 +50,7 @@ module _ {W S : Type 0} where
   unfolding lowerWhereBy
   keeps-where-by child c (andOr p a b) h =
       keeps-then (c a) (λ l q. keeps-then (c b) (λ r y. keeps-emit _ (λ s. refl, λ w. omega (arith, h w, q w, y w))))
-  keeps-where-by child c (not a) h = keeps-then (c a) (λ l q. keeps-emit _ (λ s. refl, λ w. omega (arith, q w)))
+  keeps-where-by child c (negated a) h = keeps-then (c a) (λ l q. keeps-emit _ (λ s. refl, λ w. omega (arith, q w)))
   keeps-where-by child c (compare p a f) h = keeps-then (c a) (λ l q. keeps-emit _ (λ s. refl, λ w. omega (arith, h w, q w)))
   keeps-where-by child c (range p a b f) h =
       keeps-then (c a) (λ l q. keeps-then (c b) (λ r y. keeps-emit _ (λ s. refl, λ w. omega (arith, h w, q w, y w))))
@@ -129,7 +129,7 @@ unfolding firstString
 string-below key ns h = go (find test ns) refl (if-find Within test ns h)
   where
     test : Record → Bool
-    test r = isKind 36 r && eqb (r .sub) key && opposite (eqb (r .a) 65535)
+    test r = isKind 36 r && eqb (r .sub) key && not (eqb (r .a) 65535)
 
     go : (o : Option Record) → find test ns ≡ o → If Within o → firstString key ns < 2 ^ 16
     go none e q = rw e (lit< tt)

@@ -1,4 +1,4 @@
--- Constraints: `lower_where_expr` and `lower_where_operand` of the original.
+-- Constraints: `lower_where_expr` and `lower_where_operand` of the original. Words in quotation marks are document 01's.
 -- Assumes nothing.
 use Prim.Native.Nat.{ℕ, zero, suc}
 use mathlib.Core.Bool.{true, false, cond, _&&_}
@@ -12,7 +12,7 @@ use Rattle.types.specs.Step.{Step, _>>=_, give, emit, bare}
 pub data WhereExpr : Type 0 where
   -- And, Or: sub, children
   andOr : ℕ → ℕ → ℕ → WhereExpr
-  not : ℕ → WhereExpr
+  negated : ℕ → WhereExpr
   -- sub, operand, of the length or of the value
   compare : ℕ → ℕ → ℕ → WhereExpr
   -- sub, operands, of the length or of the value
@@ -27,7 +27,7 @@ lowerWhereOperand r = cond (eqb (r .sub) 4) (operand 0 0 0) (operand (r .sub) (r
 -- the constraint or operand that a record is, by its kind
 unfoldable pub whereExpr : Record → WhereExpr
 whereExpr r =
-    cond (isKind 13 r && eqb (r .sub) 2) (not (r .a))
+    cond (isKind 13 r && eqb (r .sub) 2) (negated (r .a))
     (cond (isKind 13 r) (andOr (r .sub) (r .a) (r .b))
     (cond (isKind 14 r) (compare (r .sub) (r .a) (r .c))
     (cond (isKind 15 r) (range (r .sub) (r .a) (r .b) (r .c)) (lowerWhereOperand r))))
@@ -35,7 +35,7 @@ whereExpr r =
 -- one record, given what is done with its children
 unfoldable pub lowerWhereBy : (ℕ → Step ℕ) → WhereExpr → Step ℕ
 lowerWhereBy child (andOr sub a b) s = (child a >>= λ l. child b >>= λ r. emit (bare 13 sub l r 0 0)) s
-lowerWhereBy child (not a) s = (child a >>= λ l. emit (bare 13 2 l 0 0 0)) s
+lowerWhereBy child (negated a) s = (child a >>= λ l. emit (bare 13 2 l 0 0 0)) s
 lowerWhereBy child (compare sub a c) s = (child a >>= λ l. emit (bare 14 sub l 0 c 0)) s
 lowerWhereBy child (range sub a b c) s = (child a >>= λ l. child b >>= λ r. emit (bare 15 sub l r c 0)) s
 lowerWhereBy child (operand sub a v) s = emit (bare 16 sub a 0 0 v) s

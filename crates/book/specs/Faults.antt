@@ -53,7 +53,7 @@ isKind k r = eqb (r .kind) k
 abbrev pub isDeclaration : Record → Bool
 isDeclaration r = leb 20 (r .kind) && leb (r .kind) 25
 
--- "32 sub 1 belongs to the union itself"
+-- "32 tombstone (sub 1 belongs to the union itself, [..])"
 abbrev pub isUnionTombstone : Record → Bool
 isUnionTombstone r = isKind 32 r && eqb (r .sub) 1
 

@@ -1,4 +1,5 @@
 -- A book that is read: its records and its wildcard byte; which records stand under which declaration or item.
+-- Words in quotation marks are document 01's.
 -- Assumes nothing.
 use Prim.Native.Nat.{ℕ, suc, _-_}
 use mathlib.Core.Bool.{Bool, not, _&&_, _||_}

@@ -1,4 +1,4 @@
--- The constants of a book.
+-- The constants of a book. Words in quotation marks are document 01's.
 -- Assumes nothing.
 use Prim.Native.Nat.{ℕ}
 use mathlib.Core.List.{List, map}

@@ -1,4 +1,4 @@
--- The value of an expression: `eval_const_expr` of the original.
+-- The value of an expression: `eval_const_expr` of the original. Words in quotation marks are document 01's.
 -- Assumes nothing.
 use Prim.Native.Nat.{ℕ}
 use mathlib.Core.Bool.{cond}

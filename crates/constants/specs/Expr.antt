@@ -1,4 +1,4 @@
--- Expressions of constants: `ConstExpr` of the original.
+-- Expressions of constants: `ConstExpr` of the original. Words in quotation marks are document 01's.
 -- Assumes nothing.
 use Prim.Native.Nat.{ℕ, zero, suc}
 use mathlib.Core.Bool.{true, false}
@@ -7,11 +7,11 @@ use lib.ListN.{getD}
 use Rattle.record.specs.declared.Record.{Record}
 use Rattle.book.specs.Faults.{recordOf, isKind}
 
--- "10 literal (sub 0 Int, 1 UInt, 2 Float, 3 Hex, 4 Bool)"
+-- "10 literal (sub 0 Int, 1 UInt, 2 Float, 3 Hex, 4 Bool; [..])"
 pub data Literal : Type 0 where
   int uint float hex bool : Literal
 
--- "12 operation (sub 0-9 in `BinOpKind` order)"
+-- "12 operation (sub 0-9 in `BinOpKind` order; [..])"
 pub data Op : Type 0 where
   add sub mul div eq ne lt le gt ge : Op
 
@@ -31,7 +31,7 @@ literalOf s = getD (int ∷ uint ∷ float ∷ hex ∷ bool ∷ []) s bool
 abbrev pub opOf : ℕ → Op
 opOf s = getD (add ∷ sub ∷ mul ∷ div ∷ eq ∷ ne ∷ lt ∷ le ∷ gt ∷ ge ∷ []) s ge
 
--- one record of a tree, with a way to its children's trees
+-- one record of a tree, with a way to its children's trees; in an accepted book what is neither 10 nor 11 is 12
 unfoldable pub exprOf : (ℕ → Expr) → Record → Expr
 exprOf tree r =
     elim (isKind 10 r) [

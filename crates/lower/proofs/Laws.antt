@@ -11,7 +11,7 @@ use lib.Dec.{lit≤}
 use lib.ListN.{length, take, drop, replicate}
 use Rattle.record.specs.declared.Record.{Record}
 use Rattle.record.specs.Bytes.{AreBytes}
-use Rattle.record.specs.Write.{roomFor}
+use Rattle.record.specs.Write.{roomFor, withRecords}
 use Rattle.book.specs.Lists.{keep}
 use Rattle.book.specs.Refusal.{Cause, bookLength, check, block, shape, child, follow, name, depth}
 use Rattle.book.specs.Refusal.{Refusal, number, firstRefusal}
@@ -25,7 +25,7 @@ use Rattle.types.specs.Events.{written, told, placeAfter, behind, StopsAt, Fits
 use Rattle.types.proofs.Events.{stopped-by-the-first, finished-if-all-fit, fits-nothing, fits-within}
 use Rattle.types.specs.Step.{isStored}
 use Rattle.bodies.specs.Constant.{storedCount}
-use Rattle.lower.specs.LowerBook.{Reply, accepted, refused, Lowered, lowerBook, lowerRead, lowerRecords, usedLimits, withRecords, ended}
+use Rattle.lower.specs.LowerBook.{Reply, accepted, refused, Lowered, lowerBook, lowerRead, lowerRecords, usedLimits, ended}
 use Rattle.lower.specs.Laws.{firstRecords, Leaves, SlicesAreLeft}
 use Rattle.lower.proofs.Written.{written-within, stored-are-counted}
 use Rattle.lower.proofs.Slices.{room-in-bytes, records-kept, is-cleared, read-back}

@@ -4,33 +4,22 @@ use Prim.Native.Nat.{ℕ, suc, _+_, _*_, _/_, _≤_, min}
 use mathlib.Core.List.{List, [], _∷_, _++_, flatMap, map, append-assoc}
 use mathlib.Core.Path.{_≡_, refl, sym, ap, _∙_}
 use native.Mathlib.Omega.{arith}
-use lib.ListN.{length, take, drop, replicate, length-append, length-drop, length-replicate}
+use lib.ListN.{length, take, drop, replicate, length-replicate}
 use lib.Seq.{take-at, drop-at, drop-drop}
 use Rattle.record.specs.declared.Record.{Record}
 use Rattle.record.specs.Layout.{Within, decodeRecord, encodeRecord}
-use Rattle.record.specs.Write.{roomFor}
+use Rattle.record.specs.Write.{roomFor, withRecords, cleared}
 use Rattle.record.proofs.Trips.{encode-length, decode-encode}
+use Rattle.record.proofs.Fronts.{encoded-length, same-length}
 use Rattle.book.specs.Lists.{All, from, upTo}
-use Rattle.lower.specs.LowerBook.{withRecords, cleared}
 use Rattle.lower.specs.Laws.{KeptFrom, Cleared, firstRecords}
 
 pub room-in-bytes : (most : ℕ) (l : List ℕ) (n : ℕ) → n ≤ roomFor most l → 24 * n ≤ length l
 room-in-bytes most l n h = omega arith
 
-pub encoded-length : (rs : List Record) → length (flatMap encodeRecord rs) ≡ 24 * length rs
-unfolding flatMap
-encoded-length [] = refl
-encoded-length (r ∷ rs) =
-    let a : length (encodeRecord r) ≡ 24 = encode-length r in
-    let b : length (flatMap encodeRecord rs) ≡ 24 * length rs = encoded-length rs in
-    length-append (encodeRecord r) (flatMap encodeRecord rs) ∙ omega arith
-
 -- something of n bytes at the front, the rest as it was
 pub kept : (n : ℕ) (front lent : List ℕ) → length front ≡ n → n ≤ length lent → KeptFrom n lent (front ++ drop n lent)
-kept n front lent e h =
-    let a : length (front ++ drop n lent) ≡ length front + length (drop n lent) = length-append front (drop n lent) in
-    let b = length-drop n lent in
-    record { same-length = omega arith; rest = drop-at front (drop n lent) n e }
+kept n front lent e h = record { same-length = same-length n front lent e h; rest = drop-at front (drop n lent) n e }
 
 pub records-kept : (rs : List Record) (lent : List ℕ) → 24 * length rs ≤ length lent → KeptFrom (24 * length rs) lent (withRecords rs lent)
 unfolding withRecords

@@ -1,13 +1,11 @@
 -- The whole: `lowerBook`, from three slices to the reply and what is left in the two lent for writing. Words in quotation marks are document
 -- 01's.
 -- Assumes nothing.
-use Prim.Native.Nat.{ℕ, _*_}
-use mathlib.Core.List.{List, _++_, flatMap}
+use Prim.Native.Nat.{ℕ}
+use mathlib.Core.List.{List}
 use mathlib.Core.Option.{Option, some, none}
-use lib.ListN.{length, drop, replicate}
-use Rattle.record.specs.declared.Record.{Record}
-use Rattle.record.specs.Layout.{encodeRecord}
-use Rattle.record.specs.Write.{roomFor}
+use lib.ListN.{length}
+use Rattle.record.specs.Write.{roomFor, withRecords, cleared}
 use Rattle.book.specs.Refusal.{Refusal, number, firstRefusal}
 use Rattle.book.specs.Outline.{Book, read}
 use Rattle.constants.specs.Declared.{settled}
@@ -43,14 +41,6 @@ pub record Lowered : Type 0 where
 unfoldable pub usedLimits : List ℕ → List ℕ → Limits
 usedLimits results diagnostics =
     record { results = roomFor 2048 results; diagnostics = roomFor 256 diagnostics }
-
--- records from the start of a slice on; "leaves bytes past the last record unchanged"
-unfoldable pub withRecords : List Record → List ℕ → List ℕ
-withRecords rs slice = flatMap encodeRecord rs ++ drop (24 * length rs) slice
-
--- "zero up to its limit in bytes"
-unfoldable pub cleared : ℕ → List ℕ → List ℕ
-cleared limit slice = replicate (24 * limit) 0 ++ drop (24 * limit) slice
 
 -- how a lowering under limits leaves the slices: accepted, or refused by 9 or 10
 unfoldable pub ended : {A : Type 0} → ℕ → Limits → List ℕ → List ℕ → Out A → Lowered

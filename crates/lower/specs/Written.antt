@@ -1,4 +1,4 @@
--- What is claimed of the records that a lowering writes; the proofs are in proofs/Written.antt.
+-- What is claimed of the records that a lowering writes; the proofs are in proofs/Written.antt. Words in quotation marks are document 01's.
 -- Assumes nothing.
 use Prim.Native.Nat.{ℕ, _≤_}
 use mathlib.Core.List.{List, _∷_, _++_}

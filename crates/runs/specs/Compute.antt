@@ -35,7 +35,8 @@ use Rattle.bodies.specs.Constraint.{whereExpr, lowerWhereBy, lowerWhereExpr}
 use Rattle.bodies.specs.Constant.{tellUnless, constantRecord, lowerConstant, lowerConstants, storedCount}
 use Rattle.bodies.specs.Bodies.{unlessNone, lowerField, firstString, lowerTombstone, lowerVariant, lowerItem, lowerMessage}
 use Rattle.bodies.specs.Bodies.{lowerUnion, lowerNewtype, lowerDecl, lowerBodies}
-use Rattle.lower.specs.LowerBook.{lowerRecords, usedLimits, withRecords, cleared, ended, lowerRead, lowerBook}
+use Rattle.record.specs.Write.{withRecords, cleared}
+use Rattle.lower.specs.LowerBook.{lowerRecords, usedLimits, ended, lowerRead, lowerBook}
 use Rattle.lower.specs.LowerBook.{Lowered}
 use Rattle.runs.specs.Books.{blockBytes, withCheck, blocksFrom}
 

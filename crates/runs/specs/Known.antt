@@ -10,7 +10,8 @@ use lib.ListN.{length}
 use Rattle.record.specs.declared.Record.{Record}
 use Rattle.book.specs.Lists.{All}
 use Rattle.book.specs.Outline.{read}
-use Rattle.lower.specs.LowerBook.{Reply, accepted, Lowered, lowerBook, withRecords}
+use Rattle.record.specs.Write.{withRecords}
+use Rattle.lower.specs.LowerBook.{Reply, accepted, Lowered, lowerBook}
 use Rattle.runs.specs.Books.{bookOf, rec}
 use Rattle.runs.specs.Claims.{Claim, minus, stored, withoutValue, silent, oneMessage, noMessage}
 use Rattle.runs.specs.Claims.{newtypeOver, u8, number, arrayOf, mapOf, poison, deltaOver, limited, varint}

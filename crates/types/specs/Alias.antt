@@ -1,4 +1,4 @@
--- Plain aliases: `lower_alias` of the original.
+-- Plain aliases: `lower_alias` of the original. Words in quotation marks are document 01's.
 -- Assumes nothing.
 use Prim.Native.Nat.{ℕ}
 use Rattle.record.specs.declared.Record.{Record}

@@ -1,5 +1,5 @@
--- Causes 9 and 10 without running state: what a lowering would do if nothing stopped it, in one list, and the first thing there that is over a
--- limit. The proofs are in proofs/Events.antt. Words in quotation marks are document 01's.
+-- Causes 9 and 10, told of one thing that a lowering does and of what it does before that: all that it does as one list, and the first thing
+-- there that is over a limit. The proofs are in proofs/Events.antt. Words in quotation marks are document 01's.
 -- Assumes nothing.
 use Prim.Native.Nat.{ℕ, zero, suc, _≤_}
 use mathlib.Core.Bool.{Bool, true, false}
@@ -17,7 +17,7 @@ pub data Event : Type 0 where
   lowers resolves : ℕ → Event
   tells writes : Record → Event
 
--- all that a lowering does, n results being there
+-- all that a lowering does, n results being there. Behind a step past 64 the list goes on with a filler that no run comes to.
 unfoldable pub events : {A : Type 0} → Lowering A → ℕ → List Event
 events (done a) n = []
 events (lowering p t) n = lowers p ∷ events t n

@@ -26,7 +26,7 @@ pub data TypeExpr : Type 0 where
   one : ℕ → ℕ → ℕ → TypeExpr
   two : ℕ → ℕ → ℕ → TypeExpr
 
--- the type that a record is, by its kind
+-- the type that a record is, by its kind; in an accepted book the last is kind 9
 unfoldable pub typeExpr : Record → TypeExpr
 typeExpr r =
     cond (isKind 1 r) (plain (primitive (r .sub)))
@@ -166,7 +166,7 @@ isParameter sub (two p a b) = false
 abbrev pub beyond : Step Resolved
 beyond s = resolving 65 (done (record { root = 0; type = named POISON }, s))
 
--- `left`: how many steps are left, of 64. "The start is 1; a step to a child, a generic's target or a substituted argument adds 1".
+-- `left`: how many steps are left, of 64. "the start is 1; a step to a child, a generic's target or a substituted argument adds 1".
 unfoldable mutual
   pub resolveTypeExpr : ℕ → Book → Resolver
   resolveTypeExpr zero book n span s = beyond s
@@ -174,8 +174,8 @@ unfoldable mutual
       resolving (64 - left)
       (resolveBy
       book
-      (λ a at t. resolveTypeExpr left book a at t)
-      (λ sub a at t. resolveTypeExprWithSubstitution left book sub a at t)
+      (λ a z t. resolveTypeExpr left book a z t)
+      (λ sub a z t. resolveTypeExprWithSubstitution left book sub a z t)
       4
       (typeExpr (book ! n))
       span
@@ -191,8 +191,8 @@ unfoldable mutual
         | false ↦
             resolveBy
             book
-            (λ a at t. resolveTypeExprWithSubstitution left book sub a at t)
-            (λ new a at t. resolveTypeExprWithSubstitution left book new a at t)
+            (λ a z t. resolveTypeExprWithSubstitution left book sub a z t)
+            (λ new a z t. resolveTypeExprWithSubstitution left book new a z t)
             1
             (typeExpr (book ! n))
             span

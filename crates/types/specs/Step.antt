@@ -1,4 +1,4 @@
--- Steps of a lowering that know the names so far; the records of a resolved type.
+-- Steps of a lowering that know the names so far; the records of a resolved type. Words in quotation marks are document 01's.
 -- Assumes nothing.
 use Prim.Native.Nat.{ℕ}
 use mathlib.Core.List.{List, [], _∷_}
@@ -7,6 +7,7 @@ use lib.Dec.{eqb}
 use Rattle.book.specs.Faults.{isKind}
 use Rattle.record.specs.declared.Record.{Record}
 use Rattle.record.specs.declared.Span.{Span}
+use Rattle.record.specs.Named.{namedRecord}
 use Rattle.types.specs.Lowering.{Lowering, done, lowering, diagnostic, result, andThen}
 use Rattle.types.specs.Resolved.{ResolvedType, primitive, subByte, semantic, named, oneChild, twoChildren, inlineBits}
 use Rattle.types.specs.Resolved.{Names, POISON}
@@ -60,7 +61,7 @@ unfoldable pub emitType : ResolvedType → Step ℕ
 emitType (primitive p) = emit (bare 1 p 0 0 0 0)
 emitType (subByte p bits) = emit (bare 2 p bits 0 0 0)
 emitType (semantic p) = emit (bare 3 p 0 0 0 0)
-emitType (named n) = emit (bare 4 0 0 0 0 n)
+emitType (named n) = emit (namedRecord n)
 emitType (oneChild p size t) = emitType t >>= λ a. emit (bare 7 p a 0 0 size)
 emitType (twoChildren p l r) = emitType l >>= λ a. emitType r >>= λ b. emit (bare 8 p a b 0 0)
 emitType (inlineBits n) = emit (bare 9 0 n 0 0 0)
