@@ -2,3 +2,4 @@ pub mod Encoding
 pub mod Constraint
 pub mod Constant
 pub mod Bodies
+pub mod Whole

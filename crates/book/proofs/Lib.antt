@@ -1,3 +1,4 @@
 pub mod First
 pub mod Lists
 pub mod Records
+pub mod Trees

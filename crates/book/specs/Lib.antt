@@ -5,3 +5,4 @@ pub mod Faults
 pub mod Refusal
 pub mod First
 pub mod Outline
+pub mod Trees

@@ -139,7 +139,7 @@ unfoldable pub children : Record → List Child
 children r = childrenBy r (rowOf r)
 
 -- groups by number, to compare them
-abbrev groupNumber : Group → ℕ
+abbrev pub groupNumber : Group → ℕ
 groupNumber type = 1
 groupNumber constant = 2
 groupNumber constraint = 3
@@ -148,7 +148,7 @@ groupNumber declaration = 5
 groupNumber item = 6
 
 -- the row is of a group
-abbrev inGroup : Group → Option Row → Bool
+abbrev pub inGroup : Group → Option Row → Bool
 inGroup g none = false
 inGroup g (some w) = eqb (groupNumber g) (groupNumber (w .group))
 

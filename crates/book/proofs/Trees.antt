@@ -1,0 +1,148 @@
+-- The trees of an accepted book, and readers that take so many levels of a tree: more levels than there are give the same.
+-- Assumes nothing.
+use Prim.Native.Nat.{ℕ, zero, suc, _+_, _≤_, _<_}
+use mathlib.Core.Bool.{Bool, true, false, cond, not, _&&_, _||_, false≢true, true≢false}
+use mathlib.Core.List.{List, [], _∷_}
+use mathlib.Core.Option.{Option, some, none}
+use mathlib.Core.Path.{_≡_, refl, sym, _∙_, subst}
+use native.Mathlib.Omega.{arith}
+use lib.Dec.{leb, ltb, eqb}
+use lib.ListN.{length, length-map}
+use borrow.Author.Tests.{leb-true, leb-false, eqb-true, not-false, lt-ltb}
+use Rattle.record.specs.Layout.{recordAt}
+use Rattle.record.specs.declared.Record.{Record}
+use Rattle.book.specs.Lists.{All, any, find, keep, upTo}
+use Rattle.book.specs.Shape.{Group, type, constant, constraint, operand, declaration, item, inGroup}
+use Rattle.book.specs.Shape.{Row, table, rowOf, Child, childrenBy, children, isOf}
+use Rattle.book.specs.Blocks.{recordCount, records}
+use Rattle.book.specs.Faults.{recordOf, shapeFault, usedBefore, childFault, deeperThan, depthFault}
+use Rattle.book.specs.Refusal.{Cause, shape, child, depth, at, faulty}
+use Rattle.book.specs.First.{hasPlace}
+use Rattle.book.specs.Trees.{IsChild, Readable, AcceptedIsReadable}
+use Rattle.book.proofs.First.{passed-by-all}
+use Rattle.book.proofs.Lists.{from-length}
+
+-- what a Boolean is by what it is not, and by its parts
+not-so : (b : Bool) → (b ≡ true → ⊥) → b ≡ false
+not-so false f = refl
+not-so true f = absurd (f refl)
+
+both-not : (a b : Bool) → a || b ≡ false → (a ≡ false) × (b ≡ false)
+both-not false b e = (refl, e)
+both-not true b e = absurd (true≢false e)
+
+all-three : (a b c : Bool) → a && b && c ≡ true → (a ≡ true) × (b ≡ true) × (c ≡ true)
+all-three true true c e = (refl, refl, e)
+all-three true false c e = absurd (false≢true e)
+all-three false b c e = absurd (false≢true e)
+
+module _ {A : Type 0} where
+  all-with : {P Q R : A → Type 0} → ((x : A) → P x → Q x → R x) → (l : List A) → All P l → All Q l → All R l
+  all-with f [] p q = tt
+  all-with f (x ∷ l) p q = (f x (p .0) (q .0), all-with f l (p .1) (q .1))
+
+  none-passes :
+      {P : A → Type 0} (test : A → Bool) → ((x : A) → test x ≡ false → P x) → (l : List A) → any test l ≡ false → All P l
+  unfolding any
+  none-passes test f [] e = tt
+  none-passes {P} test f (x ∷ l) e = go (test x) refl e (none-passes test f l)
+    where
+      go :
+          (b : Bool) → test x ≡ b → elim b [ true ↦ true | false ↦ any test l ] ≡ false → (any test l ≡ false → All P l) →
+          All P (x ∷ l)
+      go true t e rest = absurd (true≢false e)
+      go false t e rest = (f x t, rest e)
+
+pub accepted-is-readable : AcceptedIsReadable
+unfolding records recordCount hasPlace faulty shapeFault childFault depthFault
+accepted-is-readable book e = record {
+  shaped = λ n less. not-false _ (passes shape n (here n less));
+  children-are = λ n less. none-passes _ (child-of n) (children (rec n)) (both-not _ _ (passes child n (here n less)) .0);
+  shallow = λ n less low. rw (lt-ltb _ _ low) at (passes depth n (here n less));
+}
+  where
+    rec : ℕ → Record
+    rec n = recordOf (records book) n
+
+    passes : (c : Cause) (n : ℕ) → hasPlace book c n ≡ true → faulty book (records book) c n ≡ false
+    passes c n h = not-so _ (passed-by-all book .0 e (at c n) h)
+
+    here : (n : ℕ) → n < length (records book) → ltb n (recordCount book) ≡ true
+    here n less =
+        lt-ltb n _ (rw (length-map (upTo (recordCount book)) (recordAt book), from-length 0 (recordCount book)) at less)
+
+    child-of :
+        (n : ℕ) (c : Child) →
+        leb n (c .number) || not (isOf (c .group) (rec (c .number))) || usedBefore (records book) n (c .number) ≡ false →
+        IsChild (records book) n c
+    child-of n c f =
+        let (g, _) = both-not _ _ f in
+        let (less, is) = both-not _ _ g in
+        record { earlier = leb-false _ _ less; of-group = not-false _ is }
+
+-- the rows of a group
+abbrev rowsOf : Group → List Row
+rowsOf g = keep (λ w. inGroup g (some w)) table
+
+-- the record with another kind
+abbrev withKind : ℕ → Record → Record
+withKind k r = record { kind = k; sub = r .sub; a = r .a; b = r .b; c = r .c; v = r .v; span = r .span }
+
+-- what holds of a record and its children, if the row is its row
+abbrev ByRow : (Record → List Child → Type 0) → Record → Row → Type 0
+ByRow P r w = w .low ≤ r .sub → r .sub ≤ w .high → P (withKind (w .kind) r) (childrenBy r (some w))
+
+-- a proof by the rows of a group
+pub by-rows :
+    (P : Record → List Child → Type 0) (g : Group) (r : Record) → isOf g r ≡ true → All (ByRow P r) (rowsOf g) → P r (children r)
+unfolding isOf children rowOf find keep
+by-rows P g r = go table
+  where
+    is-row : Row → Bool
+    is-row w = eqb (r .kind) (w .kind) && leb (w .low) (r .sub) && leb (r .sub) (w .high)
+
+    step :
+        (w : Row) (l : List Row) (o : Option Row) → (inGroup g o ≡ true → All (ByRow P r) l → P r (childrenBy r o)) →
+        (b b′ : Bool) → is-row w ≡ b → inGroup g (some w) ≡ b′ →
+        inGroup g (elim b [ true ↦ some w | false ↦ o ]) ≡ true → All (ByRow P r) (cond b′ (w ∷ l) l) →
+        P r (childrenBy r (elim b [ true ↦ some w | false ↦ o ]))
+    step w l o next true true e f is p =
+        let (k, low, high) = all-three (eqb (r .kind) (w .kind)) (leb (w .low) (r .sub)) (leb (r .sub) (w .high)) e in
+        subst (λ k. P (withKind k r) (childrenBy r (some w))) (sym (eqb-true _ _ k)) (p .0 (leb-true _ _ low) (leb-true _ _ high))
+    step w l o next true false e f is p = absurd (false≢true (sym f ∙ is))
+    step w l o next false true e f is p = next is (p .1)
+    step w l o next false false e f is p = next is p
+
+    go :
+        (l : List Row) → inGroup g (find is-row l) ≡ true → All (ByRow P r) (keep (λ w. inGroup g (some w)) l) →
+        P r (childrenBy r (find is-row l))
+    go [] is p = absurd (false≢true is)
+    go (w ∷ l) is p = step w _ (find is-row l) (go l) (is-row w) (inGroup g (some w)) refl refl is p
+
+-- a reader of the trees of a sort: so many levels of the tree at a record
+module _ {A : Type 0} (rs : List Record) (Of : Record → Type 0) (read : ℕ → ℕ → A) where
+  -- d and e levels are the same of a child, if it is of the sort
+  abbrev SameAt : ℕ → ℕ → Child → Type 0
+  SameAt d e c =
+      (isOf (c .group) (recordOf rs (c .number)) ≡ true)
+      × (Of (recordOf rs (c .number)) → read d (c .number) ≡ read e (c .number))
+
+  -- kinds from 20 up are not of the sort, and one level more depends on the children alone
+  module _
+      (readable : Readable rs) (low : (r : Record) → Of r → r .kind < 20)
+      (one-more : (d e n : ℕ) → Of (recordOf rs n) → All (SameAt d e) (children (recordOf rs n)) → read (suc d) n ≡ read (suc e) n) where
+    not-deeper :
+        (d e n : ℕ) → e ≤ d → n < length rs → Of (recordOf rs n) → deeperThan e rs n ≡ false → read d n ≡ read e n
+    unfolding deeperThan
+    not-deeper d zero n more less is shallow = absurd (true≢false shallow)
+    not-deeper zero (suc e) n more less is shallow = absurd (omega arith)
+    not-deeper (suc d) (suc e) n more less is shallow =
+        let cs = children (recordOf rs n) in
+        one-more d e n is
+        (all-with
+        (λ c h shallow′. (h .of-group, λ is′. not-deeper d e (c .number) (omega arith) (omega arith) is′ shallow′))
+        cs (readable .children-are n less) (none-passes _ (λ c h. h) cs shallow))
+
+    pub whole : (n : ℕ) → n < length rs → Of (recordOf rs n) → (more : ℕ) → read (64 + more) n ≡ read 64 n
+    whole n less is more =
+        not-deeper (64 + more) 64 n (omega arith) less is (readable .shallow n less (low (recordOf rs n) is))
