@@ -3,14 +3,14 @@
 -- Assumes nothing.
 use Prim.Native.Nat.{ℕ}
 use mathlib.Core.Bool.{Bool, true, false, not, cond, _&&_}
-use mathlib.Core.List.{List, [], _∷_}
+use mathlib.Core.List.{List}
 use mathlib.Core.Option.{Option, some, none}
 use lib.Dec.{eqb}
 use Rattle.record.specs.declared.Record.{Record}
 use Rattle.book.specs.Lists.{find}
 use Rattle.book.specs.Faults.{isKind}
 use Rattle.book.specs.Outline.{Book, _!_, notes, items}
-use Rattle.types.specs.Step.{Step, Resolved, _>>=_, _>>_, give, at, emit, forEach}
+use Rattle.types.specs.Step.{Step, _>>=_, _>>_, give, at, emit, forEach}
 use Rattle.types.specs.Numbers.{typeDeclarations}
 use Rattle.types.specs.Resolve.{resolveType}
 use Rattle.bodies.specs.Encoding.{hasAnnotation, computeFieldEncoding, underDelta, encodingRecord}

@@ -1,7 +1,7 @@
 -- Constraints: `lower_where_expr` and `lower_where_operand` of the original. Words in quotation marks are document 01's.
 -- Assumes nothing.
 use Prim.Native.Nat.{ℕ, zero, suc}
-use mathlib.Core.Bool.{true, false, cond, _&&_}
+use mathlib.Core.Bool.{cond, _&&_}
 use lib.Dec.{eqb}
 use Rattle.record.specs.declared.Record.{Record}
 use Rattle.book.specs.Faults.{isKind}

@@ -3,7 +3,7 @@
 use Prim.Native.Nat.{ℕ, zero, suc, _+_, _≤_, _<_}
 use mathlib.Core.Bool.{Bool, true, false, cond, not, _&&_, _||_, false≢true, true≢false}
 use mathlib.Core.List.{List, [], _∷_}
-use mathlib.Core.Option.{Option, some, none}
+use mathlib.Core.Option.{Option, some}
 use mathlib.Core.Path.{_≡_, refl, sym, _∙_, subst}
 use native.Mathlib.Omega.{arith}
 use lib.Dec.{leb, ltb, eqb}
@@ -12,7 +12,7 @@ use borrow.Author.Tests.{leb-true, leb-false, eqb-true, not-false, lt-ltb}
 use Rattle.record.specs.Layout.{recordAt}
 use Rattle.record.specs.declared.Record.{Record}
 use Rattle.book.specs.Lists.{All, any, find, keep, upTo}
-use Rattle.book.specs.Shape.{Group, type, constant, constraint, operand, declaration, item, inGroup}
+use Rattle.book.specs.Shape.{Group, inGroup}
 use Rattle.book.specs.Shape.{Row, table, rowOf, Child, childrenBy, children, isOf}
 use Rattle.book.specs.Blocks.{recordCount, records}
 use Rattle.book.specs.Faults.{recordOf, shapeFault, usedBefore, childFault, deeperThan, depthFault}

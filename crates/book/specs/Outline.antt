@@ -2,9 +2,9 @@
 -- Words in quotation marks are document 01's.
 -- Assumes nothing.
 use Prim.Native.Nat.{ℕ, suc, _-_}
-use mathlib.Core.Bool.{Bool, not, _&&_, _||_}
-use mathlib.Core.List.{List, [], _∷_, map}
-use lib.Dec.{leb, ltb}
+use mathlib.Core.Bool.{Bool, not}
+use mathlib.Core.List.{List, [], _∷_}
+use lib.Dec.{ltb}
 use lib.ListN.{length, drop}
 use Rattle.record.specs.declared.Record.{Record}
 use Rattle.book.specs.Lists.{any, keep, keepWhile, from, upTo}

@@ -1,14 +1,13 @@
 -- Which reply is given, and what is left in the slices.
 -- Assumes nothing.
-use Prim.Native.Nat.{ℕ, suc, _+_, _*_, _/_, _≤_, _<_, min}
-use mathlib.Core.Bool.{true, false}
-use mathlib.Core.List.{List, [], _∷_, _++_, flatMap, map}
+use Prim.Native.Nat.{ℕ, _*_, _≤_}
+use mathlib.Core.List.{List, []}
 use mathlib.Core.Logic.{_↔_}
 use mathlib.Core.Option.{Option, some, none}
 use mathlib.Core.Path.{_≡_, refl, sym, ap, _∙_, subst}
 use native.Mathlib.Omega.{arith}
 use lib.Dec.{lit≤}
-use lib.ListN.{length, take, drop, replicate}
+use lib.ListN.{length}
 use Rattle.record.specs.declared.Record.{Record}
 use Rattle.record.specs.Bytes.{AreBytes}
 use Rattle.record.specs.Write.{roomFor, withRecords}
@@ -16,7 +15,7 @@ use Rattle.book.specs.Lists.{keep}
 use Rattle.book.specs.Refusal.{Cause, bookLength, check, block, shape, child, follow, name, depth}
 use Rattle.book.specs.Refusal.{Refusal, number, firstRefusal}
 use Rattle.book.specs.First.{IsFirst}
-use Rattle.book.specs.Outline.{Book, read}
+use Rattle.book.specs.Outline.{read}
 use Rattle.book.proofs.First.{same, refused-by-the-first, passed-by-all}
 use Rattle.constants.specs.Declared.{settled}
 use Rattle.types.specs.Lowering.{Limits, State, start, Stop, tooDeep, full, stopNumber, Out, finished, stopped, run}

@@ -1,17 +1,17 @@
 -- What is left in a slice: records at its front, or zeros up to a limit.
 -- Assumes nothing.
-use Prim.Native.Nat.{ℕ, suc, _+_, _*_, _/_, _≤_, min}
+use Prim.Native.Nat.{ℕ, suc, _+_, _*_, _≤_}
 use mathlib.Core.List.{List, [], _∷_, _++_, flatMap, map, append-assoc}
 use mathlib.Core.Path.{_≡_, refl, sym, ap, _∙_}
 use native.Mathlib.Omega.{arith}
-use lib.ListN.{length, take, drop, replicate, length-replicate}
+use lib.ListN.{length, drop, replicate, length-replicate}
 use lib.Seq.{take-at, drop-at, drop-drop}
 use Rattle.record.specs.declared.Record.{Record}
 use Rattle.record.specs.Layout.{Within, decodeRecord, encodeRecord}
 use Rattle.record.specs.Write.{roomFor, withRecords, cleared}
 use Rattle.record.proofs.Trips.{encode-length, decode-encode}
 use Rattle.record.proofs.Fronts.{encoded-length, same-length}
-use Rattle.book.specs.Lists.{All, from, upTo}
+use Rattle.book.specs.Lists.{All, from}
 use Rattle.lower.specs.Laws.{KeptFrom, Cleared, firstRecords}
 
 pub room-in-bytes : (most : ℕ) (l : List ℕ) (n : ℕ) → n ≤ roomFor most l → 24 * n ≤ length l

@@ -3,10 +3,10 @@
 -- Assumes nothing.
 use Prim.Native.Nat.{ℕ}
 use mathlib.Core.List.{List}
-use mathlib.Core.Option.{Option, some, none}
+use mathlib.Core.Option.{some, none}
 use lib.ListN.{length}
 use Rattle.record.specs.Write.{roomFor, withRecords, cleared}
-use Rattle.book.specs.Refusal.{Refusal, number, firstRefusal}
+use Rattle.book.specs.Refusal.{number, firstRefusal}
 use Rattle.book.specs.Outline.{Book, read}
 use Rattle.constants.specs.Declared.{settled}
 use Rattle.types.specs.Lowering.{Lowering, Limits, Out, start, finished, stopped, stopNumber, run}

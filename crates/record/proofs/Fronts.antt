@@ -1,17 +1,17 @@
 -- Records at the front of a slice, one after the other.
 -- Assumes nothing.
-use Prim.Native.Nat.{ℕ, suc, _+_, _-_, _*_, _≤_, _<_}
+use Prim.Native.Nat.{ℕ, suc, _+_, _-_, _*_, _≤_}
 use mathlib.Core.Bool.{true}
 use mathlib.Core.List.{List, [], _∷_, _++_, flatMap, append-nil, append-assoc}
 use mathlib.Core.Path.{_≡_, refl, sym, ap, _∙_}
 use native.Mathlib.Numerals.{add-one}
 use native.Mathlib.Omega.{arith}
 use lib.Dec.{ltb}
-use lib.ListN.{length, take, drop, replicate, length-append, length-drop}
+use lib.ListN.{length, drop, replicate, length-append, length-drop}
 use lib.Seq.{take-at, drop-at, drop-drop}
 use borrow.Author.Tests.{lt-ltb}
 use Rattle.record.specs.Layout.{encodeRecord}
-use Rattle.record.specs.Write.{roomFor, writeAt, put, withRecords, cleared, PutAddsOne, ClearedForgets}
+use Rattle.record.specs.Write.{roomFor, put, withRecords, cleared, PutAddsOne, ClearedForgets}
 use Rattle.record.specs.declared.Record.{Record}
 use Rattle.record.proofs.Trips.{encode-length}
 use Rattle.record.proofs.Writes.{within-room}

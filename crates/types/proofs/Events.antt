@@ -1,18 +1,18 @@
 -- Causes 9 and 10 are those of the first event that is over a limit.
 -- Assumes nothing.
-use Prim.Native.Nat.{ℕ, suc, _+_, _≤_, _<_}
+use Prim.Native.Nat.{ℕ, suc, _≤_, _<_}
 use mathlib.Core.Bool.{Bool, true, false, true≢false, false≢true}
-use mathlib.Core.List.{List, [], _∷_, _++_, append-nil, append-assoc, nil≢cons, cons≢nil}
-use mathlib.Core.Logic.{_⊎_, inl, inr, ⊎-elim}
+use mathlib.Core.List.{List, [], _∷_, _++_, append-nil, append-assoc, nil≢cons}
+use mathlib.Core.Logic.{_⊎_, inl, inr}
 use mathlib.Core.Option.{Option, some, none}
 use mathlib.Core.Path.{_≡_, refl, sym, ap, _∙_, subst}
 use native.Mathlib.Numerals.{add-one}
 use native.Mathlib.Omega.{arith}
 use lib.Dec.{ltb, eqb}
 use lib.ListN.{length, drop, getD, length-append}
-use borrow.Author.Tests.{ltb-true, ltb-false, eqb-true, eq-eqb, ne-eqb}
+use borrow.Author.Tests.{ltb-true, ltb-false, eq-eqb, ne-eqb}
 use Rattle.record.specs.declared.Record.{Record}
-use Rattle.types.specs.Lowering.{Lowering, done, lowering, resolving, diagnostic, result, Limits, State, start, moved, withResult, withDiagnostic}
+use Rattle.types.specs.Lowering.{Lowering, done, lowering, resolving, diagnostic, result, Limits, State, moved, withResult, withDiagnostic}
 use Rattle.types.specs.Lowering.{Stop, tooDeep, full, Out, finished, stopped, run}
 use Rattle.types.specs.Events.{Event, lowers, resolves, tells, writes, events, answer, written, told, placeAfter, over, Fits, behind, StopsAt}
 use Rattle.types.proofs.Run.{step-on, step-out, tell-on, tell-out, write-on, write-out}

@@ -1,15 +1,14 @@
 -- Steps of a lowering and the records of a resolved type: what holds of all that they do.
 -- Assumes nothing.
 use Prim.Native.Nat.{ℕ, suc, _+_, _^_, _≤_, _<_}
-use mathlib.Core.Bool.{Bool, false, _&&_}
+use mathlib.Core.Bool.{false}
 use mathlib.Core.List.{List, [], _∷_}
 use mathlib.Core.Path.{_≡_, refl}
 use native.Mathlib.Omega.{arith}
-use lib.Dec.{eqb, lit<}
+use lib.Dec.{lit<}
 use Rattle.record.specs.declared.Record.{Record}
 use Rattle.record.specs.declared.Span.{Span}
 use Rattle.record.specs.Layout.{Within}
-use Rattle.book.specs.Faults.{isKind}
 use Rattle.book.specs.Lists.{All}
 use Rattle.types.specs.Events.{Event, lowers, resolves, tells, writes}
 use Rattle.types.specs.Resolved.{ResolvedType, primitive, subByte, semantic, named, oneChild, twoChildren, inlineBits}

@@ -1,7 +1,7 @@
 -- Causes 9 and 10, told of one thing that a lowering does and of what it does before that: all that it does as one list, and the first thing
 -- there that is over a limit. The proofs are in proofs/Events.antt. Words in quotation marks are document 01's.
 -- Assumes nothing.
-use Prim.Native.Nat.{ℕ, zero, suc, _≤_}
+use Prim.Native.Nat.{ℕ, suc, _≤_}
 use mathlib.Core.Bool.{Bool, true, false}
 use mathlib.Core.List.{List, [], _∷_, _++_}
 use mathlib.Core.Logic.{_↔_}

@@ -2,11 +2,9 @@
 -- 01's.
 -- Assumes nothing.
 use Prim.Native.Nat.{ℕ}
-use mathlib.Core.Bool.{Bool, not, _&&_}
+use mathlib.Core.Bool.{Bool, not}
 use mathlib.Core.List.{List, [], _∷_, _++_, map}
-use mathlib.Core.Option.{Option, some, none}
 use lib.ListN.{length}
-use Rattle.record.specs.declared.Record.{Record}
 use Rattle.book.specs.Lists.{any, keep, numberedFrom}
 use Rattle.book.specs.Faults.{isKind}
 use Rattle.book.specs.Outline.{Book, _!_, isOneOf, numbersOf, notes}

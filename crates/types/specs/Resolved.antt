@@ -1,11 +1,10 @@
 -- Resolved types: `ResolvedType` of the original, and the tables that names are looked up in. Words in quotation marks are document 01's.
 -- Assumes nothing.
-use Prim.Native.Nat.{ℕ, suc, _+_}
-use mathlib.Core.Bool.{Bool, cond, _&&_}
-use mathlib.Core.List.{List, [], _∷_, _++_, map}
+use Prim.Native.Nat.{ℕ, suc}
+use mathlib.Core.Bool.{_&&_}
+use mathlib.Core.List.{List, [], _∷_, _++_}
 use mathlib.Core.Option.{Option, some, none, Option·map, orElse}
 use lib.Dec.{eqb}
-use Rattle.record.specs.declared.Record.{Record}
 use Rattle.book.specs.Lists.{find}
 
 -- "types 1-3, 7-9; 4 with type number in v"
