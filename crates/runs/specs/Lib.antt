@@ -3,3 +3,5 @@ pub mod Compute
 pub mod Claims
 pub mod Known
 pub mod Slips
+pub mod Edges
+pub mod Refused
