@@ -63,6 +63,8 @@ pub fn children(to: &mut Books) {
     }
     used_before(to);
     not_earlier(to);
+    // A name outside its values, and the record itself as its child: 4 goes first.
+    to.refuse("4-name-before-5-child", 4, |d| d.put(6, 0, [4_096, 0, 0], 0));
 }
 
 /// A record of a group, of the kind that is next to another group.

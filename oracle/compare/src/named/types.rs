@@ -188,6 +188,17 @@ fn early_aliases(to: &mut Books) {
     let t = hidden.map(l, r);
     hidden.newtype(4, t);
     to.add("stub-hides-alias-as-head", &hidden, accepted(10, 1, 0));
+    // The alias is to a generic alias here, so that it would be a head if the stub did not hide it.
+    let mut hidden = Draft::default().wild();
+    let t = hidden.named(2);
+    hidden.alias(1, t, &[]);
+    let t = hidden.u8();
+    hidden.alias(3, t, &[5]);
+    let t = hidden.named(3);
+    hidden.alias(2, t, &[]);
+    let t = hidden.generic_u8(2);
+    hidden.newtype(4, t);
+    to.add("stub-hides-generic-alias", &hidden, accepted(6, 1, 0));
 }
 
 /// A target of a generic alias N1, the alias's parameters, and the counts of results and diagnostics.
