@@ -24,7 +24,9 @@ module _ {A : Type 0} where
   -- the elements that pass, in their order
   unfoldable pub keep : (A → Bool) → List A → List A
   keep test [] = []
-  keep test (x ∷ xs) = cond (test x) (x ∷ keep test xs) (keep test xs)
+  keep test (x ∷ xs) =
+      let rest : List A = keep test xs in
+      cond (test x) (x ∷ rest) rest
 
   -- the elements up to the first that does not pass
   unfoldable pub keepWhile : (A → Bool) → List A → List A

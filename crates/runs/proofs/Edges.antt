@@ -8,7 +8,7 @@ use Rattle.runs.specs.Edges.{andNot, orOfOperands, tombstones, unions, h
 use Rattle.runs.specs.Edges.{deltaWhatTheyHad, deltaNotEligible, deltaThroughAlias, limits, noLimits, shapes}
 use Rattle.runs.specs.Edges.{moreShapes, plainAliases, aliasAsHead, qualified, poisonCounts, handedOn, argumentTwice}
 use Rattle.runs.specs.Edges.{wholeTarget, onlyBareNames, oneNameInThreeSets, ambiguous, ambiguousAlone, stubs}
-use Rattle.runs.specs.Edges.{stubBeforeAlias, constantOrder, rings, undeclaredTwice, valueless, deepExpression}
+use Rattle.runs.specs.Edges.{stubBeforeAlias, stubBeforeGeneric, constantOrder, rings, undeclaredTwice, valueless, deepExpression}
 use Rattle.runs.specs.Edges.{beyondI64, EdgesAnswered}
 use Rattle.runs.proofs.Full.{lowerFull}
 use Rattle.runs.proofs.Known.{_&_, answered}
@@ -121,6 +121,10 @@ stub-before-alias-answered : Answered stubBeforeAlias
 unfolding computed lowerFull standsAt behindField
 stub-before-alias-answered = answered stubBeforeAlias refl (λ results diagnostics. refl) (refl & refl & tt)
 
+stub-before-generic-answered : Answered stubBeforeGeneric
+unfolding computed lowerFull standsAt behindField
+stub-before-generic-answered = answered stubBeforeGeneric refl (λ results diagnostics. refl) (refl & refl & tt)
+
 constant-order-answered : Answered constantOrder
 unfolding computed lowerFull standsAt behindField
 constant-order-answered = answered constantOrder refl (λ results diagnostics. refl) (refl & refl & refl & refl & tt)
@@ -174,6 +178,7 @@ edges-answered =
     & ambiguous-alone-answered
     & stubs-answered
     & stub-before-alias-answered
+    & stub-before-generic-answered
     & constant-order-answered
     & rings-answered
     & undeclared-twice-answered

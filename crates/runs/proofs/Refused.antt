@@ -17,7 +17,7 @@ use Rattle.lower.specs.LowerBook.{Lowered, refused, lowerRecords, usedLimits, e
 use Rattle.runs.specs.Books.{bookOf}
 use Rattle.runs.specs.Compute.{computed}
 use Rattle.runs.specs.Refused.{TurnedBack, TurnsBack, Passes, Stopped, Stops, zeroUpTo, RefusedBooks, over, deepest}
-use Rattle.runs.specs.Refused.{stops, deepStops, Enough}
+use Rattle.runs.specs.Refused.{stops, deepStops, Enough, deepTower}
 use Rattle.runs.specs.Known.{Known, leaving, k1, k2}
 use Rattle.runs.specs.Refused.{lengths, checks, blockRules, kinds, subs, bounds, unused, children, parameters}
 use Rattle.runs.specs.Refused.{annotations, arguments, reasons, fields, itemTombstones, variants, unionTombstones}
@@ -297,6 +297,10 @@ k2-enough : Enough k2
 unfolding computed lowerIn
 k2-enough = is-enough k2 (λ results diagnostics. refl)
 
+deep-tower-enough : Enough deepTower
+unfolding computed lowerIn over
+deep-tower-enough = is-enough deepTower (λ results diagnostics. refl)
+
 pub refused-books : RefusedBooks
 refused-books =
     record {
@@ -321,5 +325,5 @@ refused-books =
       deepest = deepest-passes;
       stops = stops-stop;
       deepStops = deep-stops-stop;
-      enough = k1-enough & k2-enough & tt;
+      enough = k1-enough & k2-enough & deep-tower-enough & tt;
     }

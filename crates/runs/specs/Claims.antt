@@ -19,19 +19,22 @@ Claim = List Record → List Record → Bool
 abbrev pub naming : ℕ → ℕ → List Record → List Record
 naming kind n rs = keep (λ r. isKind kind r && eqb (r .a) n) rs
 
--- there is one record, and it passes; there is none
+-- there is one record, and it passes
 abbrev pub theOne : (Record → Bool) → List Record → Bool
 theOne test [] = false
 theOne test (r ∷ []) = test r
 theOne test (r ∷ s ∷ rs) = false
 
+-- there is none
 abbrev pub nobody : List Record → Bool
 nobody [] = true
 nobody (r ∷ rs) = false
 
+-- the integer -n
 abbrev pub minus : ℕ → ℤ
 minus n = negℤ (pos n)
 
+-- two integers are the same
 abbrev pub sameInteger : ℤ → ℤ → Bool
 sameInteger (pos m) (pos n) = eqb m n
 sameInteger (pos m) (negsuc n) = false
@@ -60,6 +63,7 @@ oneMessage m n offset len results diagnostics =
     (λ r. isKind 50 r && eqb (r .sub) m && eqb (r .a) n && eqb (r .span .offset) offset && eqb (r .span .len) len)
     diagnostics
 
+-- there is no diagnostic
 abbrev pub noMessage : Claim
 noMessage results diagnostics = nobody diagnostics
 
@@ -71,6 +75,7 @@ pub data Shape : Type 0 where
   arrayOf : Shape → Shape
   mapOf : Shape → Shape → Shape
 
+-- "poison 4,294,967,295"
 abbrev pub poison : Shape
 poison = number 4294967295
 
@@ -102,6 +107,7 @@ default = 0
 abbrev pub varint : ℕ
 varint = 1
 
+-- the field n is delta over an encoding
 abbrev pub deltaOver : ℕ → ℕ → Claim
 deltaOver n base results diagnostics =
     theOne (λ r. isKind 46 r && eqb (r .sub) base && eqb (r .a) 1) (behindField n results)
@@ -110,10 +116,12 @@ deltaOver n base results diagnostics =
 abbrev pub isDelta : ℕ → Claim
 isDelta n results diagnostics = theOne (λ r. isKind 46 r && eqb (r .a) 1) (behindField n results)
 
+-- the field n is not delta, and has an encoding
 abbrev pub noDelta : ℕ → ℕ → Claim
 noDelta n base results diagnostics =
     theOne (λ r. isKind 46 r && eqb (r .sub) base && eqb (r .a) 0) (behindField n results)
 
+-- the field n has a limit
 abbrev pub limited : ℕ → ℕ → Claim
 limited n limit results diagnostics =
     theOne (λ r. isKind 46 r && eqb (r .b) 1 && eqb (r .v) limit) (behindField n results)

@@ -1060,6 +1060,38 @@ stubBeforeAlias =
       says = newtypeOver N2 (mapOf u8 (number 2)) ∷ noMessage ∷ [];
     }
 
+-- The same where the alias is to the generic alias N3<T>: by its own number, the stub's, N2 is no generic alias, so N2 of u8 is message 3.
+abbrev pub stubBeforeGeneric : Known
+stubBeforeGeneric =
+    record {
+      wildcards = true;
+      book =
+          rec 4 0 N2 0 0 0 100 1  -- 0: N2
+          ∷ rec 23 0 N1 0 0 0 110 2  -- 1: alias N1: record 0
+          ∷ rec 1 1 0 0 0 0 120 3  -- 2: u8
+          ∷ rec 23 0 N3 2 0 0 130 4  -- 3: alias N3: record 2
+          ∷ rec 30 0 T 0 0 0 140 5  -- 4: its parameter T
+          ∷ rec 4 0 N3 0 0 0 150 6  -- 5: N3
+          ∷ rec 23 0 N2 5 0 0 160 7  -- 6: alias N2: record 5
+          ∷ rec 1 1 0 0 0 0 170 8  -- 7: u8
+          ∷ rec 6 0 N2 7 0 0 180 9  -- 8: N2 of record 7
+          ∷ rec 22 0 N4 8 0 0 190 1  -- 9: newtype N4: record 8
+          ∷ [];
+      reply = accepted 6 1 0;
+      results =
+          rec 4 0 0 0 0 2 0 0  -- 0: the stub
+          ∷ rec 40 0 N1 0 0 0 110 2  -- 1: alias N1: type 0
+          ∷ rec 4 0 0 0 0 1 0 0  -- 2: the generic alias
+          ∷ rec 40 0 N2 2 0 0 160 7  -- 3: alias N2: type 2
+          ∷ rec 4 0 0 0 0 4294967295 0 0  -- 4: poison
+          ∷ rec 48 0 N4 4 0 0 190 1  -- 5: newtype N4: type 4
+          ∷ [];
+      diagnostics =
+          rec 50 3 N2 0 0 1 180 9  -- 0: message 3, N2
+          ∷ [];
+      says = newtypeOver N4 poison ∷ oneMessage 3 N2 180 9 ∷ [];
+    }
+
 -- N1 = N2 - N3, N2 = N3 × 10, N3 = 7, N4 = N3: "always the earliest reached one whose declared references are done". That is N3, then
 -- N2, then N1, which stands before N4.
 abbrev pub constantOrder : Known
@@ -1287,6 +1319,7 @@ edges =
     ∷ ambiguousAlone
     ∷ stubs
     ∷ stubBeforeAlias
+    ∷ stubBeforeGeneric
     ∷ constantOrder
     ∷ rings
     ∷ undeclaredTwice

@@ -363,6 +363,7 @@ k12 =
       says = newtypeOver N2 (number 1) ∷ noMessage ∷ [];
     }
 
+-- the list
 abbrev pub known : List Known
 known = k1 ∷ k2 ∷ k3 ∷ k4 ∷ k5 ∷ k6 ∷ k7 ∷ k8 ∷ k9 ∷ k10 ∷ k11 ∷ k12 ∷ []
 

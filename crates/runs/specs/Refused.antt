@@ -13,7 +13,7 @@ use Rattle.record.specs.Write.{writeAt}
 use Rattle.book.specs.Lists.{All}
 use Rattle.book.specs.Refusal.{firstRefusal}
 use Rattle.types.specs.Step.{bare}
-use Rattle.lower.specs.LowerBook.{refused, lowerBook}
+use Rattle.lower.specs.LowerBook.{accepted, refused, lowerBook}
 use Rattle.runs.specs.Books.{bookOf, withCheck, rec}
 use Rattle.runs.specs.Known.{Known, leaving, N1, N2, k1, k2, k10}
 use Rattle.runs.specs.Slips.{deltaAndUnion}
@@ -681,8 +681,21 @@ Enough k =
     lowerBook (bookOf (k .wildcards) (k .book)) results diagnostics
     ≡ leaving (k .reply) (k .results) (k .diagnostics) results diagnostics
 
+-- u8 at depth 64 is not too deep
+abbrev pub deepTower : Known
+deepTower =
+    record {
+      wildcards = false;
+      book = towers 7 7;
+      reply = accepted 51 0 0;
+      results = optionals 49 ++ (bare 48 0 N2 49 0 0 ∷ []);
+      diagnostics = [];
+      says = [];
+    }
+
+-- these, in slices of just their size
 abbrev pub enough : List Known
-enough = k1 ∷ k2 ∷ []
+enough = k1 ∷ k2 ∷ deepTower ∷ []
 
 -- all of them. The proofs are in proofs/Refused.antt.
 pub record RefusedBooks : Type 0 where

@@ -157,6 +157,7 @@ deltaAndUnion =
       says = deltaOver N2 varint ∷ noDelta N5 default ∷ [];
     }
 
+-- the books beside K1 to K12
 abbrev pub beside : List Known
 beside = castSeen ∷ unknownHead ∷ argumentOutside ∷ deltaAndBool ∷ deltaAndUnion ∷ []
 
@@ -300,6 +301,7 @@ dividedDown =
       says = stored N1 (minus 4);
     }
 
+-- the list
 abbrev pub slips : List Slip
 slips =
     squareStored
