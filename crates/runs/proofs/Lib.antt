@@ -1,4 +1,4 @@
-pub mod Full
+pub mod Limited
 pub mod Known
 pub mod Slips
 pub mod Edges

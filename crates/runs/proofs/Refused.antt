@@ -1,6 +1,6 @@
 -- The books that are turned back, each by computing its first refusal, and the lowerings that are stopped.
 -- Assumes nothing.
-use Prim.Native.Nat.{ℕ, _*_, _/_, min}
+use Prim.Native.Nat.{ℕ, _*_}
 use mathlib.Core.Bool.{false}
 use mathlib.Core.List.{List, [], _∷_, map}
 use mathlib.Core.Option.{Option, some, none}
@@ -9,11 +9,11 @@ use lib.ListN.{length}
 use Rattle.record.specs.Write.{cleared}
 use Rattle.book.specs.Lists.{All}
 use Rattle.book.specs.Outline.{read}
-use Rattle.book.specs.Refusal.{Refusal, number, firstRefusal}
+use Rattle.book.specs.Refusal.{firstRefusal}
 use Rattle.constants.specs.Declared.{settled}
 use Rattle.types.specs.Lowering.{Limits, Out, finished, stopped, stopNumber, start, run}
 use Rattle.bodies.specs.Constant.{storedCount}
-use Rattle.lower.specs.LowerBook.{Lowered, refused, lowerRecords, usedLimits, ended, lowerRead, lowerBook}
+use Rattle.lower.specs.LowerBook.{Lowered, refused, lowerRecords, ended, lowerRead}
 use Rattle.runs.specs.Books.{bookOf}
 use Rattle.runs.specs.Compute.{computed}
 use Rattle.runs.specs.Refused.{TurnedBack, TurnsBack, Passes, Stopped, Stops, zeroUpTo, RefusedBooks, over, deepest}
@@ -22,42 +22,13 @@ use Rattle.runs.specs.Known.{Known, leaving, k1, k2}
 use Rattle.runs.specs.Refused.{lengths, checks, blockRules, kinds, subs, bounds, unused, children, parameters}
 use Rattle.runs.specs.Refused.{annotations, arguments, reasons, fields, itemTombstones, variants, unionTombstones}
 use Rattle.runs.specs.Refused.{names, depths}
+use Rattle.runs.proofs.Limited.{placed, refusedOr, by-refusal, limits, lowerIn, lower-in}
 use Rattle.runs.proofs.Known.{_&_}
 
--- number and place of a refusal
-abbrev told : Option Refusal → Option (ℕ × ℕ)
-told none = none
-told (some x) = some (number (x .cause), x .place)
-
--- a refusal by number and place, or what there is else
-abbrev orElse : Lowered → List ℕ → List ℕ → Option (ℕ × ℕ) → Lowered
-orElse l results diagnostics none = l
-orElse l results diagnostics (some q) =
-    record { reply = refused (q .0) (q .1); results = results; diagnostics = diagnostics }
-
--- a lowering by its first refusal
-by-refusal :
-    (book results diagnostics : List ℕ) →
-    lowerBook book results diagnostics
-    ≡ orElse (lowerRead (read book) results diagnostics) results diagnostics (told (firstRefusal book))
-unfolding lowerBook
-by-refusal book results diagnostics = go (firstRefusal book)
-  where
-    go :
-        (o : Option Refusal) →
-        _≡_ {A = Lowered}
-        (elim o [
-          | some x ↦ record { reply = refused (number (x .cause)) (x .place); results = results; diagnostics = diagnostics }
-          | none ↦ lowerRead (read book) results diagnostics
-        ])
-        (orElse (lowerRead (read book) results diagnostics) results diagnostics (told o))
-    go none = refl
-    go (some x) = refl
-
-turned : (t : TurnedBack) → told (firstRefusal (t .book)) ≡ some (t .cause, t .place) → TurnsBack t
+turned : (t : TurnedBack) → placed (firstRefusal (t .book)) ≡ some (t .cause, t .place) → TurnsBack t
 turned t e results diagnostics =
     by-refusal (t .book) results diagnostics
-    ∙ ap (orElse (lowerRead (read (t .book)) results diagnostics) results diagnostics) e
+    ∙ ap (refusedOr (lowerRead (read (t .book)) results diagnostics) results diagnostics) e
 
 -- from an equation between lists to one for each element
 abbrev first : {A : Type 0} → A → List A → A
@@ -70,7 +41,7 @@ rest (x ∷ xs) = xs
 
 all-turned :
     (ts : List TurnedBack) →
-    map (λ (t : TurnedBack). told (firstRefusal (t .book))) ts ≡ map (λ (t : TurnedBack). some (t .cause, t .place)) ts →
+    map (λ (t : TurnedBack). placed (firstRefusal (t .book))) ts ≡ map (λ (t : TurnedBack). some (t .cause, t .place)) ts →
     All TurnsBack ts
 all-turned [] e = tt
 all-turned (t ∷ ts) e = turned t (ap (first none) e) & all-turned ts (ap rest e)
@@ -151,10 +122,6 @@ deepest-passes : All Passes deepest
 unfolding computed over
 deepest-passes = refl & refl & refl & tt
 
--- the limits of slices of these lengths
-abbrev limits : ℕ → ℕ → Limits
-limits r d = record { results = min 2048 (r / 24); diagnostics = min 256 (d / 24) }
-
 -- number and place of a stop
 abbrev toldStop : {A : Type 0} → Out A → Option (ℕ × ℕ)
 toldStop (finished a s) = none
@@ -172,7 +139,7 @@ fate s =
     let most : Limits = limits (s .results) (s .diagnostics) in
     let book : List ℕ = bookOf false (s .book) in
     record {
-      refusal = told (firstRefusal book);
+      refusal = placed (firstRefusal book);
       stop = toldStop (run most (lowerRecords (read book)) start);
       results = 24 * most .results;
       diagnostics = 24 * most .diagnostics;
@@ -210,21 +177,14 @@ module _ (results diagnostics : List ℕ) where
       ∙ ap (λ n. stoppedBy l r n (some (stopNumber c, x))) q
       ∙ ap (stoppedBy l r d) e
 
-  module _ (m n : ℕ) (r : length results ≡ m) (d : length diagnostics ≡ n) where
-    limits-are : usedLimits results diagnostics ≡ limits m n
-    unfolding usedLimits
-    limits-are = rw (r, d)
-
 stops-so : (s : Stopped) → fate s ≡ claimed s → Stops s
-unfolding lowerRead
+unfolding lowerIn
 stops-so s e results diagnostics r d =
     let book : List ℕ = bookOf false (s .book) in
-    by-refusal book results diagnostics
-    ∙ ap (λ (f : Fate). orElse (lowerRead (read book) results diagnostics) results diagnostics (f .refusal)) e
-    ∙ ap
-    (λ (most : Limits).
-    ended (storedCount (settled (read book))) most results diagnostics (run most (lowerRecords (read book)) start))
-    (limits-are results diagnostics (s .results) (s .diagnostics) r d)
+    let most : Limits = limits (s .results) (s .diagnostics) in
+    let l : Lowered = ended (storedCount (settled (read book))) most results diagnostics (run most (lowerRecords (read book)) start) in
+    lower-in results diagnostics (s .results) (s .diagnostics) r d book
+    ∙ ap (λ (f : Fate). refusedOr l results diagnostics (f .refusal)) e
     ∙ is-stopped
     results
     diagnostics
@@ -251,20 +211,7 @@ deep-stops-stop : All Stops deepStops
 unfolding computed over
 deep-stops-stop = all-stop deepStops refl
 
--- `lowerBook` with the limits known
-unfoldable lowerIn : Limits → List ℕ → List ℕ → List ℕ → Lowered
-lowerIn most book results diagnostics =
-    orElse
-    (ended
-    (storedCount (settled (read book)))
-    most
-    results
-    diagnostics
-    (run most (lowerRecords (read book)) start))
-    results
-    diagnostics
-    (told (firstRefusal book))
-
+-- an answer in slices of just its size
 is-enough :
     (k : Known) →
     ((results diagnostics : List ℕ) →
@@ -275,18 +222,15 @@ is-enough :
     diagnostics
     ≡ leaving (k .reply) (k .results) (k .diagnostics) results diagnostics) →
     Enough k
-unfolding lowerRead lowerIn
 is-enough k e results diagnostics r d =
-    let book : List ℕ = bookOf (k .wildcards) (k .book) in
-    by-refusal book results diagnostics
-    ∙ ap
-    (λ (most : Limits).
-    orElse
-    (ended (storedCount (settled (read book))) most results diagnostics (run most (lowerRecords (read book)) start))
+    lower-in
     results
     diagnostics
-    (told (firstRefusal book)))
-    (limits-are results diagnostics (24 * length (k .results)) (24 * length (k .diagnostics)) r d)
+    (24 * length (k .results))
+    (24 * length (k .diagnostics))
+    r
+    d
+    (bookOf (k .wildcards) (k .book))
     ∙ e results diagnostics
 
 k1-enough : Enough k1

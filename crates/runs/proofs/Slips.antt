@@ -13,27 +13,27 @@ use Rattle.runs.specs.Known.{leaving, Answered}
 use Rattle.runs.specs.Slips.{castSeen, unknownHead, argumentOutside, deltaAndBool, deltaAndUnion, AnswersBeside, Slip, NotSo, NoSlip}
 use Rattle.runs.specs.Slips.{squareStored, innerSubstituted, headStubbed, headStubbedThenLookedAt}
 use Rattle.runs.specs.Slips.{deltaOnBool, deltaOnUnion, dividedDown}
-use Rattle.runs.proofs.Full.{lowerFull}
+use Rattle.runs.proofs.Limited.{lowerIn}
 use Rattle.runs.proofs.Known.{_&_, answered, k5-answered, k6-answered, k10-answered}
 
 cast-seen-answered : Answered castSeen
-unfolding computed lowerFull standsAt behindField
+unfolding computed lowerIn standsAt behindField
 cast-seen-answered = answered castSeen refl (λ results diagnostics. refl) (refl & refl & refl & tt)
 
 unknown-head-answered : Answered unknownHead
-unfolding computed lowerFull standsAt behindField
+unfolding computed lowerIn standsAt behindField
 unknown-head-answered = answered unknownHead refl (λ results diagnostics. refl) (refl & refl & tt)
 
 argument-outside-answered : Answered argumentOutside
-unfolding computed lowerFull standsAt behindField
+unfolding computed lowerIn standsAt behindField
 argument-outside-answered = answered argumentOutside refl (λ results diagnostics. refl) (refl & refl & tt)
 
 delta-and-bool-answered : Answered deltaAndBool
-unfolding computed lowerFull standsAt behindField
+unfolding computed lowerIn standsAt behindField
 delta-and-bool-answered = answered deltaAndBool refl (λ results diagnostics. refl) (refl & refl & tt)
 
 delta-and-union-answered : Answered deltaAndUnion
-unfolding computed lowerFull standsAt behindField
+unfolding computed lowerIn standsAt behindField
 delta-and-union-answered = answered deltaAndUnion refl (λ results diagnostics. refl) (refl & refl & tt)
 
 pub answers-beside : AnswersBeside
