@@ -1,5 +1,10 @@
 pub mod Expr
 pub mod Eval
 pub mod Order
+pub mod Leads
+pub mod Stored
+pub mod Theory
+pub mod Changes
 pub mod Declared
 pub mod Whole
+pub mod SameTrees
