@@ -32,17 +32,17 @@ use Rattle.lower.specs.Laws.{NoRowHolds, doings, RefusedByItsRow, Stoppe
 
 -- from the start on
 module _ (most : Limits) (book : List ℕ) where
-  stops-if : (c : Stop) (p : ℕ) → (run most (lowerRecords (read book)) start ≡ stopped c p) ↔ StopsAt most [] (doings book) c p
+  stops-if : (c : Stop) (p : ℕ) → (run most (lowerRecords (settled (read book)) (read book)) start ≡ stopped c p) ↔ StopsAt most [] (doings book) c p
   unfolding placeAfter written told
-  stops-if c p = stopped-by-the-first (Unit × Names) most [] (lowerRecords (read book)) c p (fits-nothing most)
+  stops-if c p = stopped-by-the-first (Unit × Names) most [] (lowerRecords (settled (read book)) (read book)) c p (fits-nothing most)
 
   ends-if :
       (a : Unit × Names) (s : State) →
-      run most (lowerRecords (read book)) start ≡ finished a s →
+      run most (lowerRecords (settled (read book)) (read book)) start ≡ finished a s →
       Fits most (doings book) × (s ≡ behind (doings book))
   unfolding placeAfter written told
   ends-if a s h =
-      let x = finished-if-all-fit (Unit × Names) most [] (lowerRecords (read book)) a s (fits-nothing most) .0 h in
+      let x = finished-if-all-fit (Unit × Names) most [] (lowerRecords (settled (read book)) (read book)) a s (fits-nothing most) .0 h in
       (x .0, x .2)
 
 -- a reply's number and place; 0 for accepted
@@ -82,7 +82,7 @@ module _ (book results diagnostics : List ℕ) where
   most = usedLimits results diagnostics
 
   abbrev outcome : Out (Unit × Names)
-  outcome = run most (lowerRecords (read book)) start
+  outcome = run most (lowerRecords (settled (read book)) (read book)) start
 
   pub lower-refused :
       (x : Refusal) →
@@ -154,7 +154,7 @@ refused-by-its-row book results diagnostics x = (λ h. there h (goes book result
 pub stopped-by-its-row : StoppedByItsRow
 stopped-by-its-row book results diagnostics c p = (λ h. there h (goes book results diagnostics), back)
   where
-    to : (run (usedLimits results diagnostics) (lowerRecords (read book)) start ≡ stopped c p) ↔ StopsAt (usedLimits results diagnostics) [] (doings book) c p
+    to : (run (usedLimits results diagnostics) (lowerRecords (settled (read book)) (read book)) start ≡ stopped c p) ↔ StopsAt (usedLimits results diagnostics) [] (doings book) c p
     to = stops-if (usedLimits results diagnostics) book c p
 
     there :
@@ -250,7 +250,7 @@ module _ (book results diagnostics : List ℕ) where
       AreBytes book →
       firstRefusal book ≡ none →
       (a : Unit × Names) (s : State) →
-      run (usedLimits results diagnostics) (lowerRecords (read book)) start ≡ finished a s →
+      run (usedLimits results diagnostics) (lowerRecords (settled (read book)) (read book)) start ≡ finished a s →
       Left (ended (storedCount (settled (read book))) (usedLimits results diagnostics) results diagnostics (finished a s))
   unfolding Leaves ended usedLimits
   left-accepted bytes e a s h =

@@ -33,11 +33,11 @@ use Rattle.lower.specs.Written.{NoStepBeyond, StoredAreCounted, WrittenW
 all-fine :
     (W : Type 0) (book : Book) →
     (W → All Within (book .records) × All (λ c. IsWord (c .value)) (settled book) × Sound (registerDeclarations book) 0) →
-    ((m : ℕ) → suc m ≤ length (written (events (lowerRecords book) 0)) → W → m < 2 ^ 16) →
-    All (Fine W ⊥) (events (lowerRecords book) 0)
+    ((m : ℕ) → suc m ≤ length (written (events (lowerRecords (settled book) book) 0)) → W → m < 2 ^ 16) →
+    All (Fine W ⊥) (events (lowerRecords (settled book) book) 0)
 unfolding lowerRecords
 all-fine W book given below =
-    all-events (Below W) (Fine W ⊥) _ (lowerRecords book) 0 (λ m l. below m (omega arith))
+    all-events (Below W) (Fine W ⊥) _ (lowerRecords (settled book) book) 0 (λ m l. below m (omega arith))
     ((keeps-next {S = ⊥}
     (keeps-next
     (keeps-each _ (keeps-alias book (λ w. given w .0)) (plainAliases book))
@@ -72,7 +72,7 @@ all-written (writes r ∷ es) h = let x = all-written es (h .1) in ((h .0 .1 tt,
 pub written-within : WrittenWithin
 unfolding read
 written-within book most a s each e few h =
-    let t = lowerRecords (read book) in
+    let t = lowerRecords (settled (read book)) (read book) in
     let x = finished-adds (Unit × Names) most t start a s h in
     let less : length (s .results) ≤ 2048 = omega (arith, x .results-within (omega arith)) in
     let y =

@@ -15,6 +15,7 @@ use Rattle.book.specs.Lists.{keep, upTo}
 use Rattle.book.specs.Refusal.{Refusal, number}
 use Rattle.book.specs.First.{IsFirst, Holds, hasPlace}
 use Rattle.book.specs.Outline.{read}
+use Rattle.constants.specs.Declared.{settled}
 use Rattle.types.specs.Lowering.{Stop, stopNumber}
 use Rattle.types.specs.Step.{isStored}
 use Rattle.types.specs.Events.{Event, events, written, told, StopsAt, Fits}
@@ -36,7 +37,7 @@ firstRecords n slice = map (λ i. decodeRecord (drop (24 * i) slice)) (upTo n)
 
 -- all that the lowering of a book does, one thing after the other, up to the first step past 64; what the list has behind that is filler
 abbrev pub doings : List ℕ → List Event
-doings book = events (lowerRecords (read book)) 0
+doings book = events (lowerRecords (settled (read book)) (read book)) 0
 
 -- accepted with r results, d diagnostics and c stored constants: the slices hold exactly the records that the lowering writes and tells, within
 -- the used limits, and are else as lent; the counts are those of these records

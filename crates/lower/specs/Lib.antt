@@ -1,3 +1,4 @@
 pub mod LowerBook
 pub mod Written
 pub mod Laws
+pub mod Demand3

@@ -8,6 +8,7 @@ use lib.ListN.{length}
 use Rattle.record.specs.Write.{roomFor, withRecords, cleared}
 use Rattle.book.specs.Refusal.{number, firstRefusal}
 use Rattle.book.specs.Outline.{Book, read}
+use Rattle.constants.specs.Order.{Settled}
 use Rattle.constants.specs.Declared.{settled}
 use Rattle.types.specs.Lowering.{Lowering, Limits, Out, start, finished, stopped, stopNumber, run}
 use Rattle.types.specs.Resolved.{Names}
@@ -18,9 +19,10 @@ use Rattle.bodies.specs.Constant.{lowerConstants, storedCount}
 use Rattle.bodies.specs.Bodies.{lowerBodies}
 
 -- "20-22 numbered from 0, then generic aliases, [..]; plain aliases; constants, [..]; bodies. Each part goes in book order."
-unfoldable pub lowerRecords : Book → Lowering (Unit × Names)
-lowerRecords book =
-    (forEach (lowerAlias book) (plainAliases book) >> lowerConstants book (settled book) >> lowerBodies book)
+-- The constants come as they were settled.
+unfoldable pub lowerRecords : List Settled → Book → Lowering (Unit × Names)
+lowerRecords cs book =
+    (forEach (lowerAlias book) (plainAliases book) >> lowerConstants book cs >> lowerBodies book)
     (registerDeclarations book)
 
 -- what a lowering answers
@@ -58,15 +60,15 @@ ended stored most results diagnostics (stopped stop p) =
     }
 
 -- a book that none of 1 to 8 refuses
-unfoldable pub lowerRead : Book → List ℕ → List ℕ → Lowered
-lowerRead book results diagnostics =
+unfoldable pub lowerRead : List Settled → Book → List ℕ → List ℕ → Lowered
+lowerRead cs book results diagnostics =
     let most : Limits = usedLimits results diagnostics in
-    ended (storedCount (settled book)) most results diagnostics (run most (lowerRecords book) start)
+    ended (storedCount cs) most results diagnostics (run most (lowerRecords cs book) start)
 
 -- causes 1 to 8 leave "all" as it was
 unfoldable pub lowerBook : List ℕ → List ℕ → List ℕ → Lowered
 lowerBook book results diagnostics =
     elim (firstRefusal book) [
       | some x ↦ record { reply = refused (number (x .cause)) (x .place); results = results; diagnostics = diagnostics }
-      | none ↦ lowerRead (read book) results diagnostics
+      | none ↦ lowerRead (settled (read book)) (read book) results diagnostics
     ]

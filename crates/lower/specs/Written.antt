@@ -1,15 +1,19 @@
 -- What is claimed of the records that a lowering writes; the proofs are in proofs/Written.antt. Words in quotation marks are document 01's.
 -- Assumes nothing.
 use Prim.Native.Nat.{ℕ, _≤_}
-use mathlib.Core.List.{List, _∷_, _++_}
-use mathlib.Core.Option.{none}
+use mathlib.Core.List.{List, _∷_, _++_, map}
+use mathlib.Core.Option.{some, none}
 use mathlib.Core.Path.{_≡_}
 use lib.ListN.{length}
+use Rattle.record.specs.declared.Record.{Record}
 use Rattle.record.specs.Bytes.{AreBytes}
 use Rattle.record.specs.Layout.{Within}
+use Rattle.arith.specs.Word.{word}
 use Rattle.book.specs.Lists.{All, keep}
+use Rattle.book.specs.Faults.{isKind}
 use Rattle.book.specs.Refusal.{firstRefusal}
 use Rattle.book.specs.Outline.{Book, read}
+use Rattle.constants.specs.Order.{Settled}
 use Rattle.constants.specs.Declared.{settled}
 use Rattle.types.specs.Lowering.{Limits, State, start, finished, run}
 use Rattle.types.specs.Events.{Event, resolves, events, written}
@@ -22,7 +26,7 @@ use Rattle.lower.specs.LowerBook.{lowerRecords}
 abbrev pub NoStepBeyond : Type 0
 NoStepBeyond =
     (book : Book) (before rest : List Event) (d : ℕ) →
-    events (lowerRecords book) 0 ≡ before ++ (resolves d ∷ rest) → d ≤ 65
+    events (lowerRecords (settled book) book) 0 ≡ before ++ (resolves d ∷ rest) → d ≤ 65
 
 -- every record that is written for a book of bytes has its fields within their widths, so that it can be read back
 abbrev pub WrittenWithin : Type 0
@@ -31,11 +35,25 @@ WrittenWithin =
     AreBytes book →
     firstRefusal book ≡ none →
     most .results ≤ 2048 →
-    run most (lowerRecords (read book)) start ≡ finished a s →
+    run most (lowerRecords (settled (read book)) (read book)) start ≡ finished a s →
     All Within (s .results) × All Within (s .diagnostics)
+
+-- the 41s among some records, each as a, sub and v
+unfoldable pub constantsIn : List Record → List (ℕ × ℕ × ℕ)
+constantsIn rs = map (λ r. (r .a, r .sub, r .v)) (keep (isKind 41) rs)
+
+-- "41 reached constant (sub 1 stored, a, b type, v value or 0)"
+unfoldable pub constantOf : Settled → ℕ × ℕ × ℕ
+constantOf x = elim (x .value) [ some z ↦ (x .constant .name, 1, word z) | none ↦ (x .constant .name, 0, 0) ]
+
+-- the 41s that are written are those of the reached constants, in their order
+abbrev pub ReachedAreWritten : Type 0
+ReachedAreWritten =
+    (book : Book) →
+    constantsIn (written (events (lowerRecords (settled book) book) 0)) ≡ map constantOf (settled book)
 
 -- the 41s marked stored are as many as the constants that have a value
 abbrev pub StoredAreCounted : Type 0
 StoredAreCounted =
     (book : Book) →
-    length (keep isStored (written (events (lowerRecords book) 0))) ≡ storedCount (settled book)
+    length (keep isStored (written (events (lowerRecords (settled book) book) 0))) ≡ storedCount (settled book)

@@ -27,7 +27,7 @@ refusedOr l results diagnostics (some q) =
 pub by-refusal :
     (book results diagnostics : List ℕ) →
     lowerBook book results diagnostics
-    ≡ refusedOr (lowerRead (read book) results diagnostics) results diagnostics (placed (firstRefusal book))
+    ≡ refusedOr (lowerRead (settled (read book)) (read book) results diagnostics) results diagnostics (placed (firstRefusal book))
 unfolding lowerBook
 by-refusal book results diagnostics = go (firstRefusal book)
   where
@@ -36,9 +36,9 @@ by-refusal book results diagnostics = go (firstRefusal book)
         _≡_ {A = Lowered}
         (elim o [
           | some x ↦ record { reply = refused (number (x .cause)) (x .place); results = results; diagnostics = diagnostics }
-          | none ↦ lowerRead (read book) results diagnostics
+          | none ↦ lowerRead (settled (read book)) (read book) results diagnostics
         ])
-        (refusedOr (lowerRead (read book) results diagnostics) results diagnostics (placed o))
+        (refusedOr (lowerRead (settled (read book)) (read book) results diagnostics) results diagnostics (placed o))
     go none = refl
     go (some x) = refl
 
@@ -55,7 +55,7 @@ lowerIn most book results diagnostics =
     most
     results
     diagnostics
-    (run most (lowerRecords (read book)) start))
+    (run most (lowerRecords (settled (read book)) (read book)) start))
     results
     diagnostics
     (placed (firstRefusal book))

@@ -28,7 +28,7 @@ use Rattle.runs.proofs.Known.{_&_}
 turned : (t : TurnedBack) → placed (firstRefusal (t .book)) ≡ some (t .cause, t .place) → TurnsBack t
 turned t e results diagnostics =
     by-refusal (t .book) results diagnostics
-    ∙ ap (refusedOr (lowerRead (read (t .book)) results diagnostics) results diagnostics) e
+    ∙ ap (refusedOr (lowerRead (settled (read (t .book))) (read (t .book)) results diagnostics) results diagnostics) e
 
 -- from an equation between lists to one for each element
 abbrev first : {A : Type 0} → A → List A → A
@@ -140,7 +140,7 @@ fate s =
     let book : List ℕ = bookOf false (s .book) in
     record {
       refusal = placed (firstRefusal book);
-      stop = toldStop (run most (lowerRecords (read book)) start);
+      stop = toldStop (run most (lowerRecords (settled (read book)) (read book)) start);
       results = 24 * most .results;
       diagnostics = 24 * most .diagnostics;
     }
@@ -182,7 +182,7 @@ unfolding lowerIn
 stops-so s e results diagnostics r d =
     let book : List ℕ = bookOf false (s .book) in
     let most : Limits = limits (s .results) (s .diagnostics) in
-    let l : Lowered = ended (storedCount (settled (read book))) most results diagnostics (run most (lowerRecords (read book)) start) in
+    let l : Lowered = ended (storedCount (settled (read book))) most results diagnostics (run most (lowerRecords (settled (read book)) (read book)) start) in
     lower-in results diagnostics (s .results) (s .diagnostics) r d book
     ∙ ap (λ (f : Fate). refusedOr l results diagnostics (f .refusal)) e
     ∙ is-stopped
@@ -190,7 +190,7 @@ stops-so s e results diagnostics r d =
     diagnostics
     (storedCount (settled (read book)))
     (limits (s .results) (s .diagnostics))
-    (run (limits (s .results) (s .diagnostics)) (lowerRecords (read book)) start)
+    (run (limits (s .results) (s .diagnostics)) (lowerRecords (settled (read book)) (read book)) start)
     (s .zeroResults)
     (s .zeroDiagnostics)
     (s .cause)

@@ -1,0 +1,92 @@
+-- Demand 3, as one claim about any lowering: about the replies and the result slices of any two of its runs, "whatever slices each is lent". Words
+-- in quotation marks are the demand's or document 01's.
+-- Assumes nothing.
+use Prim.Native.Nat.{ℕ}
+use mathlib.Core.Bool.{true}
+use mathlib.Core.List.{List, List·Memᴰ}
+use mathlib.Core.Logic.{_↔_, _⊎_}
+use mathlib.Core.Path.{_≡_}
+use lib.IntN.{ℤ}
+use Rattle.record.specs.declared.Record.{Record}
+use Rattle.record.specs.Bytes.{AreBytes}
+use Rattle.arith.specs.Word.{word}
+use Rattle.book.specs.Outline.{read}
+use Rattle.constants.specs.Order.{Constant, each, declares}
+use Rattle.constants.specs.Declared.{constants}
+use Rattle.constants.specs.SameTrees.{SameExpression}
+use Rattle.constants.specs.Stored.{Stored}
+use Rattle.constants.specs.Leads.{LiesOnRing, LeadsIntoRing}
+use Rattle.types.specs.Step.{isStored}
+use Rattle.lower.specs.LowerBook.{Lowered}
+use Rattle.lower.specs.Laws.{IsAccepted, firstRecords}
+
+-- any lowering: from a book and two slices, for results and for diagnostics, to the reply and what is left in them
+abbrev pub AnyLowering : Type 0
+AnyLowering = List ℕ → List ℕ → List ℕ → Lowered
+
+-- the name n and the value v "stand as a and v of the 41s marked stored among the results counted": read from the reply and the result slice
+pub record Stands (x : Lowered) (n v : ℕ) : Type 0 where
+  pub reply : IsAccepted x
+  pub constant : Record
+  pub counted : List·Memᴰ constant (firstRecords (reply .results) (x .results))
+  pub marked : isStored constant ≡ true
+  pub name : constant .a ≡ n
+  pub value : constant .v ≡ v
+
+-- the constant n is one "that demand 2 says is stored" for a book, with the value z, "no constant having a value beforehand"
+abbrev pub StoredFor : List ℕ → ℕ → ℤ → Type 0
+StoredFor book n z = Stored each (constants (read book)) n z
+
+-- "the second declares every constant of the first with the same expression"
+abbrev pub DeclaresAllOf : List ℕ → List ℕ → Type 0
+DeclaresAllOf first second =
+    (c : Constant) →
+    List·Memᴰ c (constants (read first)) →
+    (d : Constant)
+    × List·Memᴰ d (constants (read second))
+    × (d .name ≡ c .name)
+    × SameExpression (read first) c (read second) d
+
+-- "Where none is added"
+abbrev pub AddsNoneTo : List ℕ → List ℕ → Type 0
+AddsNoneTo first second =
+    (d : Constant) → List·Memᴰ d (constants (read second)) → declares (constants (read first)) (d .name) ≡ true
+
+-- of one accepted book
+pub record OfEach (book : List ℕ) (x : Lowered) : Type 0 where
+  -- "in each, exactly the stored names and values stand as a and v of the 41s marked stored among the results counted"
+  pub exactly : (n v : ℕ) → Stands x n v ↔ ((z : ℤ) × (word z ≡ v) × StoredFor book n z)
+  -- "no accepted book itself stores a constant that lies on a ring of its references or leads into one"
+  pub no-ring :
+      (c : Constant) →
+      List·Memᴰ c (constants (read book)) →
+      LiesOnRing (constants (read book)) c ⊎ LeadsIntoRing (constants (read book)) c →
+      (v : ℕ) →
+      Stands x (c .name) v →
+      ⊥
+
+-- of two accepted books, "where the second declares every constant of the first with the same expression"
+pub record OfBoth (first second : List ℕ) (x y : Lowered) : Type 0 where
+  -- "every constant that demand 2 says is stored for the first is stored for the second, with the same value"
+  pub kept :
+      (n : ℕ) (z : ℤ) → StoredFor first n z → StoredFor second n z × Stands x n (word z) × Stands y n (word z)
+  -- "Where none is added, the two store exactly the same names with the same values."
+  pub same : AddsNoneTo first second → (n v : ℕ) → Stands x n v ↔ Stands y n v
+
+-- "Take any two books, both accepted [..]. Whatever constants the second adds, in whatever order its constants stand, and whatever else in it
+-- differs"
+pub record Demand3 (lower : AnyLowering) : Type 0 where
+  pub of-each :
+      (book results diagnostics : List ℕ) →
+      AreBytes book →
+      IsAccepted (lower book results diagnostics) →
+      OfEach book (lower book results diagnostics)
+  pub of-both :
+      (first results diagnostics : List ℕ) →
+      (second others notes : List ℕ) →
+      AreBytes first →
+      AreBytes second →
+      IsAccepted (lower first results diagnostics) →
+      IsAccepted (lower second others notes) →
+      DeclaresAllOf first second →
+      OfBoth first second (lower first results diagnostics) (lower second others notes)
