@@ -1,2 +1,9 @@
 pub mod Values
 pub mod Whole
+pub mod Tests
+pub mod Order
+pub mod Eval
+pub mod Carry
+pub mod Final
+pub mod Changes
+pub mod Stored

@@ -1,0 +1,210 @@
+-- The order: it goes on until nothing is ready, and any such order takes exactly the reached constants.
+-- Assumes nothing.
+use Prim.Native.Nat.{ℕ, zero, suc, _≤_, _<_}
+use mathlib.Core.Bool.{Bool, true, false, cond, not, true≢false, false≢true}
+use mathlib.Core.List.{List, [], _∷_, List·Memᴰ, List·Memᴰ·head, List·Memᴰ·tail, List·Memᴰ·cases-cons, List·Memᴰ·not-nil, Memᴰ·cast}
+use mathlib.Core.Logic.{_⊎_, inl, inr, ⊎-elim}
+use mathlib.Core.Option.{Option, some, none}
+use mathlib.Core.Path.{_≡_, refl, sym, _∙_, ap, subst}
+use native.Mathlib.Omega.{arith}
+use lib.Dec.{eqb}
+use lib.ListN.{length}
+use borrow.Author.Tests.{eqb-true, eq-eqb, not-true, not-false}
+use Rattle.book.specs.Lists.{any, find, keep}
+use Rattle.book.proofs.Lists.{keep-length}
+use Rattle.constants.specs.Expr.{refs}
+use Rattle.constants.specs.Order.{Constant, Way, Reached, reached, has, declares, admits, ready, orderFrom, order}
+use Rattle.constants.specs.Theory.{Distinct, InTurn, OrderIsInTurn, InTurnTakesReached}
+use Rattle.constants.proofs.Tests.{any-mem, mem-any, keep-mem, has-mem, mem-has, declares-mem, mem-declares, IsReady, is-ready, ready-if}
+
+-- fewer pass a test that more fail
+module _ {A : Type 0} (p q : A → Bool) (h : (x : A) → q x ≡ true → p x ≡ true) where
+  step-fewer :
+      (x : A) (m n : List A) → length m ≤ length n → (a b : Bool) → (b ≡ true → a ≡ true) →
+      length (cond b (x ∷ m) m) ≤ length (cond a (x ∷ n) n)
+  step-fewer x m n less true true f = omega arith
+  step-fewer x m n less true false f = omega arith
+  step-fewer x m n less false true f = absurd (false≢true (f refl))
+  step-fewer x m n less false false f = less
+
+  fewer : (l : List A) → length (keep q l) ≤ length (keep p l)
+  unfolding keep
+  fewer [] = omega arith
+  fewer (x ∷ l) = step-fewer x (keep q l) (keep p l) (fewer l) (p x) (q x) (h x)
+
+  less : {x : A} {l : List A} → List·Memᴰ x l → p x ≡ true → q x ≡ false → length (keep q l) < length (keep p l)
+  unfolding keep
+  less (List·Memᴰ·head {x = y} {xs = l} e) t f = rw (sym (ap p e) ∙ t, sym (ap q e) ∙ f) (omega (arith, fewer l))
+  less (List·Memᴰ·tail {x = y} {xs = l} m) t f = go (p y) (q y) (h y) (less m t f)
+    where
+      go :
+          (a b : Bool) → (b ≡ true → a ≡ true) → length (keep q l) < length (keep p l) →
+          length (cond b (y ∷ keep q l) (keep q l)) < length (cond a (y ∷ keep p l) (keep p l))
+      go true true f s = omega arith
+      go true false f s = omega arith
+      go false true f s = absurd (false≢true (f refl))
+      go false false f s = s
+
+-- the first that passes, or none
+module _ {A : Type 0} (test : A → Bool) where
+  abbrev Found : List A → Option A → Type 0
+  Found l none = (x : A) → List·Memᴰ x l → test x ≡ false
+  Found l (some x) = List·Memᴰ x l × (test x ≡ true)
+
+  found : (l : List A) → Found l (find test l)
+  unfolding find
+  found [] = λ x m. absurd (List·Memᴰ·not-nil m)
+  found (x ∷ l) = go (test x) refl (find test l) (found l)
+    where
+      go : (b : Bool) → test x ≡ b → (o : Option A) → Found l o → Found (x ∷ l) (elim b [ true ↦ some x | false ↦ o ])
+      go true e o f = (List·Memᴰ·head refl, e)
+      go false e none f = λ y m. ⊎-elim (λ q. ap test q ∙ e) (f y) (List·Memᴰ·cases-cons m)
+      go false e (some y) f = (List·Memᴰ·tail (f .0), f .1)
+
+-- how many are not done
+module _ (w : Way) (cs : List Constant) where
+  abbrev undone : List ℕ → Constant → Bool
+  undone done c = not (has (c .name) done)
+
+  abbrev left : List ℕ → ℕ
+  left done = length (keep (undone done) cs)
+
+  one-done : (done : List ℕ) (c : Constant) → List·Memᴰ c cs → has (c .name) done ≡ false → left (c .name ∷ done) < left done
+  unfolding any
+  one-done done c m f =
+      less (undone done) (undone (c .name ∷ done)) later m (ap not f) (rw (eq-eqb (c .name) (c .name) refl, any) refl)
+    where
+      later : (x : Constant) → undone (c .name ∷ done) x ≡ true → undone done x ≡ true
+      later x e = go (eqb (c .name) (x .name)) e
+        where
+          go : (b : Bool) → not (elim b [ true ↦ true | false ↦ has (x .name) done ]) ≡ true → undone done x ≡ true
+          go true e = absurd (false≢true e)
+          go false e = e
+
+  from-in-turn : (most : ℕ) (done : List ℕ) → left done ≤ most → InTurn w cs done (orderFrom most w cs done)
+  unfolding orderFrom
+  from-in-turn zero done few = λ c m. not-so (ready w cs done c) (λ r. nobody c m (is-ready w cs done c r .fresh))
+    where
+      nobody : (c : Constant) → List·Memᴰ c cs → has (c .name) done ≡ false → ⊥
+      nobody c m f = omega (arith, one-done done c m f, few)
+
+      not-so : (b : Bool) → (b ≡ true → ⊥) → b ≡ false
+      not-so false f = refl
+      not-so true f = absurd (f refl)
+  from-in-turn (suc most) done few =
+      go (find (ready w cs done) cs) (found (ready w cs done) cs) (λ c. from-in-turn most (c .name ∷ done))
+    where
+      go :
+          (o : Option Constant) → Found (ready w cs done) cs o →
+          ((c : Constant) → left (c .name ∷ done) ≤ most → InTurn w cs (c .name ∷ done) (orderFrom most w cs (c .name ∷ done))) →
+          InTurn w cs done (elim o [ none ↦ [] | some c ↦ c ∷ orderFrom most w cs (c .name ∷ done) ])
+      go none f rest = f
+      go (some c) f rest =
+          (f .0, f .1, rest c (omega (arith, one-done done c (f .0) (is-ready w cs done c (f .1) .fresh), few)))
+
+pub order-is-in-turn : OrderIsInTurn
+unfolding order
+order-is-in-turn w cs = from-in-turn w cs (length cs) [] (keep-length _ cs)
+
+-- Any order. What is done when all have been taken:
+abbrev pub doneAfter : List Constant → List ℕ → List ℕ
+doneAfter [] done = done
+doneAfter (c ∷ taken) done = doneAfter taken (c .name ∷ done)
+
+-- a name that is put before others, and the names that are done
+pub has-first : (n m : ℕ) (ns : List ℕ) → has n (m ∷ ns) ≡ true → (m ≡ n) ⊎ (has n ns ≡ true)
+unfolding any
+has-first n m ns e = go (eqb m n) refl e
+  where
+    go : (b : Bool) → eqb m n ≡ b → elim b [ true ↦ true | false ↦ has n ns ] ≡ true → (m ≡ n) ⊎ (has n ns ≡ true)
+    go true q e = inl (eqb-true m n q)
+    go false q e = inr e
+
+pub has-later : (n m : ℕ) (ns : List ℕ) → has n ns ≡ true → has n (m ∷ ns) ≡ true
+has-later n m ns h = mem-has (List·Memᴰ·tail (has-mem n ns h))
+
+pub stays-done : (taken : List Constant) (done : List ℕ) (n : ℕ) → has n done ≡ true → has n (doneAfter taken done) ≡ true
+stays-done [] done n h = h
+stays-done (c ∷ taken) done n h = stays-done taken (c .name ∷ done) n (has-later n (c .name) done h)
+
+pub taken-done : {c : Constant} {taken : List Constant} (done : List ℕ) → List·Memᴰ c taken → has (c .name) (doneAfter taken done) ≡ true
+taken-done {c} done (List·Memᴰ·head {x = d} {xs = taken} e) =
+    stays-done taken (d .name ∷ done) (c .name) (mem-has (List·Memᴰ·head (ap (λ (x : Constant). x .name) e)))
+taken-done {c} done (List·Memᴰ·tail {x = d} m) = taken-done (d .name ∷ done) m
+
+done-taken :
+    (taken : List Constant) (done : List ℕ) (n : ℕ) → has n (doneAfter taken done) ≡ true →
+    ((c : Constant) × List·Memᴰ c taken × (c .name ≡ n)) ⊎ (has n done ≡ true)
+done-taken [] done n h = inr h
+done-taken (c ∷ taken) done n h =
+    ⊎-elim
+    (λ x. inl (x .0, List·Memᴰ·tail (x .1), x .2))
+    (λ g. ⊎-elim (λ q. inl (c, List·Memᴰ·head refl, q)) (λ k. inr k) (has-first n (c .name) done g))
+    (done-taken taken (c .name ∷ done) n h)
+
+module _ (w : Way) (cs : List Constant) where
+  pub taken-declared : (taken : List Constant) (done : List ℕ) → InTurn w cs done taken → (c : Constant) → List·Memᴰ c taken → List·Memᴰ c cs
+  taken-declared [] done t x m = absurd (List·Memᴰ·not-nil m)
+  taken-declared (c ∷ taken) done t x m =
+      ⊎-elim (λ q. Memᴰ·cast q (t .0)) (taken-declared taken (c .name ∷ done) (t .2) x) (List·Memᴰ·cases-cons m)
+
+  none-left :
+      (taken : List Constant) (done : List ℕ) → InTurn w cs done taken →
+      (c : Constant) → List·Memᴰ c cs → ready w cs (doneAfter taken done) c ≡ false
+  none-left [] done t = t
+  none-left (c ∷ taken) done t = none-left taken (c .name ∷ done) (t .2)
+
+  module _ (distinct : Distinct cs) where
+    abbrev AllReached : List ℕ → Type 0
+    AllReached done = (d : Constant) → List·Memᴰ d cs → has (d .name) done ≡ true → Reached w cs d
+
+    ready-reached : (done : List ℕ) → AllReached done → (c : Constant) → List·Memᴰ c cs → ready w cs done c ≡ true → Reached w cs c
+    ready-reached done all c m e =
+        let r = is-ready w cs done c e in
+        reached m (r .admitted) (λ d k h. all d k (r .behind (d .name) h (mem-declares (d .name) k refl)))
+
+    one-more : (done : List ℕ) → AllReached done → (c : Constant) → List·Memᴰ c cs → Reached w cs c → AllReached (c .name ∷ done)
+    one-more done all c m r d k h =
+        ⊎-elim (λ q. subst (Reached w cs) (distinct c d m k q) r) (all d k) (has-first (d .name) (c .name) done h)
+
+    sound :
+        (taken : List Constant) (done : List ℕ) → InTurn w cs done taken → AllReached done →
+        (c : Constant) → List·Memᴰ c taken → Reached w cs c
+    sound [] done t all x m = absurd (List·Memᴰ·not-nil m)
+    sound (c ∷ taken) done t all x m =
+        let r = ready-reached done all c (t .0) (t .1) in
+        ⊎-elim
+        (λ q. subst (Reached w cs) (sym q) r)
+        (sound taken (c .name ∷ done) (t .2) (one-more done all c (t .0) r) x)
+        (List·Memᴰ·cases-cons m)
+
+    complete : (taken : List Constant) → InTurn w cs [] taken → {c : Constant} → Reached w cs c → List·Memᴰ c taken
+    complete taken t {c} (reached m a named) =
+        go (has (c .name) (doneAfter taken [])) refl (λ d k h. complete taken t (named d k h))
+      where
+        go :
+            (b : Bool) → has (c .name) (doneAfter taken []) ≡ b →
+            ((d : Constant) → List·Memᴰ d cs → has (d .name) (refs (c .expr)) ≡ true → List·Memᴰ d taken) →
+            List·Memᴰ c taken
+        go true e rest =
+            ⊎-elim
+            (λ x. Memᴰ·cast (distinct c (x .0) m (taken-declared taken [] t (x .0) (x .1)) (sym (x .2))) (x .1))
+            (λ h. absurd (List·Memᴰ·not-nil (has-mem (c .name) [] h)))
+            (done-taken taken [] (c .name) e)
+        go false e rest = absurd (true≢false (sym (ready-if w cs (doneAfter taken []) c is) ∙ none-left taken [] t c m))
+          where
+            is : IsReady w cs (doneAfter taken []) c
+            is =
+                record {
+                  fresh = e;
+                  admitted = a;
+                  behind =
+                      λ n h k.
+                      let x = declares-mem cs n k in
+                      subst (λ (j : ℕ). has j (doneAfter taken []) ≡ true) (x .2)
+                      (taken-done [] (rest (x .0) (x .1) (subst (λ (j : ℕ). has j (refs (c .expr)) ≡ true) (sym (x .2)) h)));
+                }
+
+pub in-turn-takes-reached : InTurnTakesReached
+in-turn-takes-reached w cs distinct taken t c =
+    (sound w cs distinct taken [] t (λ d k h. absurd (List·Memᴰ·not-nil (has-mem (d .name) [] h))) c, λ r. complete w cs distinct taken t r)
