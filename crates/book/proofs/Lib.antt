@@ -1,4 +1,5 @@
 pub mod First
 pub mod Lists
+pub mod Members
 pub mod Records
 pub mod Trees

@@ -4,7 +4,7 @@ use Prim.Native.Nat.{ℕ, _+_, _-_, _*_, _/_, _%_, _≤_, _<_}
 use mathlib.Core.Bool.{or-true}
 use mathlib.Core.List.{List}
 use mathlib.Core.Option.{none}
-use mathlib.Core.Path.{_≡_, refl}
+use mathlib.Core.Path.{_≡_, refl, _∙_}
 use native.Mathlib.Omega.{arith}
 use lib.Dec.{eqb}
 use lib.ListN.{length, drop, length-map}
@@ -33,6 +33,10 @@ records-within book each = all-map Within (recordAt book) at-place (upTo (record
     at-place : (r : ℕ) → Within (recordAt book r)
     at-place r = let n = 512 * (r / 21) + 4 + 24 * (r % 21) in bytes-are-within (drop n book) (bytes-drop n each)
 
+pub records-length : (book : List ℕ) → length (records book) ≡ recordCount book
+unfolding records
+records-length book = length-map (upTo (recordCount book)) (recordAt book) ∙ from-length 0 (recordCount book)
+
 -- cause 1 does not hold, so there are at most 64 blocks
 short-enough : (book : List ℕ) → firstRefusal book ≡ none → length book ≤ 32768
 unfolding hasPlace faulty lengthFault
@@ -42,8 +46,8 @@ short-enough book e =
     omega arith
 
 pub few-records : (book : List ℕ) → AreBytes book → firstRefusal book ≡ none → length (records book) ≤ 1600
-unfolding records recordCount
+unfolding recordCount
 few-records book each e =
     let short = short-enough book e in
     let last : recordsIn book (blocks book - 1) < 256 = bytes-drop (512 * (blocks book - 1)) each .byte 2 in
-    rw (length-map (upTo (recordCount book)) (recordAt book), from-length 0 (recordCount book)) (omega arith)
+    omega (arith, records-length book)

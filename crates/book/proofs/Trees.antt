@@ -7,11 +7,10 @@ use mathlib.Core.Option.{Option, some}
 use mathlib.Core.Path.{_≡_, refl, sym, _∙_, subst}
 use native.Mathlib.Omega.{arith}
 use lib.Dec.{leb, ltb, eqb}
-use lib.ListN.{length, length-map}
+use lib.ListN.{length}
 use borrow.Author.Tests.{leb-true, leb-false, eqb-true, not-false, lt-ltb}
-use Rattle.record.specs.Layout.{recordAt}
 use Rattle.record.specs.declared.Record.{Record}
-use Rattle.book.specs.Lists.{All, any, find, keep, upTo}
+use Rattle.book.specs.Lists.{All, any, find, keep}
 use Rattle.book.specs.Shape.{Group, inGroup}
 use Rattle.book.specs.Shape.{Row, table, rowOf, Child, childrenBy, children, isOf}
 use Rattle.book.specs.Blocks.{recordCount, records}
@@ -20,7 +19,7 @@ use Rattle.book.specs.Refusal.{Cause, shape, child, depth, at, faulty}
 use Rattle.book.specs.First.{hasPlace}
 use Rattle.book.specs.Trees.{IsChild, Readable, AcceptedIsReadable}
 use Rattle.book.proofs.First.{passed-by-all}
-use Rattle.book.proofs.Lists.{from-length}
+use Rattle.book.proofs.Records.{records-length}
 
 -- what a Boolean is by what it is not, and by its parts
 not-so : (b : Bool) → (b ≡ true → ⊥) → b ≡ false
@@ -54,7 +53,7 @@ module _ {A : Type 0} where
       go false t e rest = (f x t, rest e)
 
 pub accepted-is-readable : AcceptedIsReadable
-unfolding records recordCount hasPlace faulty shapeFault childFault depthFault
+unfolding hasPlace faulty shapeFault childFault depthFault
 accepted-is-readable book e = record {
   shaped = λ n less. not-false _ (passes shape n (here n less));
   children-are = λ n less. none-passes _ (child-of n) (children (rec n)) (both-not _ _ (passes child n (here n less)) .0);
@@ -68,8 +67,7 @@ accepted-is-readable book e = record {
     passes c n h = not-so _ (passed-by-all book .0 e (at c n) h)
 
     here : (n : ℕ) → n < length (records book) → ltb n (recordCount book) ≡ true
-    here n less =
-        lt-ltb n _ (rw (length-map (upTo (recordCount book)) (recordAt book), from-length 0 (recordCount book)) at less)
+    here n less = lt-ltb n (recordCount book) (omega (arith, records-length book))
 
     child-of :
         (n : ℕ) (c : Child) →
@@ -85,39 +83,46 @@ abbrev rowsOf : Group → List Row
 rowsOf g = keep (λ w. inGroup g (some w)) table
 
 -- the record with another kind
-abbrev withKind : ℕ → Record → Record
+abbrev pub withKind : ℕ → Record → Record
 withKind k r = record { kind = k; sub = r .sub; a = r .a; b = r .b; c = r .c; v = r .v; span = r .span }
 
--- what holds of a record and its children, if the row is its row
-abbrev ByRow : (Record → List Child → Type 0) → Record → Row → Type 0
-ByRow P r w = w .low ≤ r .sub → r .sub ≤ w .high → P (withKind (w .kind) r) (childrenBy r (some w))
+-- what holds of a record and its row, if the row is its row
+abbrev ByRow : (Record → Option Row → Type 0) → Record → Row → Type 0
+ByRow P r w = w .low ≤ r .sub → r .sub ≤ w .high → P (withKind (w .kind) r) (some w)
 
 -- a proof by the rows of a group
-pub by-rows :
-    (P : Record → List Child → Type 0) (g : Group) (r : Record) → isOf g r ≡ true → All (ByRow P r) (rowsOf g) → P r (children r)
-unfolding isOf children rowOf find keep
-by-rows P g r = go table
+pub by-row :
+    (P : Record → Option Row → Type 0) (g : Group) (r : Record) → isOf g r ≡ true → All (ByRow P r) (rowsOf g) → P r (rowOf r)
+unfolding isOf rowOf find keep
+by-row P g r = go table
   where
     is-row : Row → Bool
     is-row w = eqb (r .kind) (w .kind) && leb (w .low) (r .sub) && leb (r .sub) (w .high)
 
     step :
-        (w : Row) (l : List Row) (o : Option Row) → (inGroup g o ≡ true → All (ByRow P r) l → P r (childrenBy r o)) →
+        (w : Row) (l : List Row) (o : Option Row) → (inGroup g o ≡ true → All (ByRow P r) l → P r o) →
         (b b′ : Bool) → is-row w ≡ b → inGroup g (some w) ≡ b′ →
         inGroup g (elim b [ true ↦ some w | false ↦ o ]) ≡ true → All (ByRow P r) (cond b′ (w ∷ l) l) →
-        P r (childrenBy r (elim b [ true ↦ some w | false ↦ o ]))
+        P r (elim b [ true ↦ some w | false ↦ o ])
     step w l o next true true e f is p =
         let (k, low, high) = all-three (eqb (r .kind) (w .kind)) (leb (w .low) (r .sub)) (leb (r .sub) (w .high)) e in
-        subst (λ k. P (withKind k r) (childrenBy r (some w))) (sym (eqb-true _ _ k)) (p .0 (leb-true _ _ low) (leb-true _ _ high))
+        subst (λ k. P (withKind k r) (some w)) (sym (eqb-true _ _ k)) (p .0 (leb-true _ _ low) (leb-true _ _ high))
     step w l o next true false e f is p = absurd (false≢true (sym f ∙ is))
     step w l o next false true e f is p = next is (p .1)
     step w l o next false false e f is p = next is p
 
     go :
         (l : List Row) → inGroup g (find is-row l) ≡ true → All (ByRow P r) (keep (λ w. inGroup g (some w)) l) →
-        P r (childrenBy r (find is-row l))
+        P r (find is-row l)
     go [] is p = absurd (false≢true is)
     go (w ∷ l) is p = step w _ (find is-row l) (go l) (is-row w) (inGroup g (some w)) refl refl is p
+
+-- of a record and its children
+pub by-rows :
+    (P : Record → List Child → Type 0) (g : Group) (r : Record) → isOf g r ≡ true →
+    All (ByRow (λ r o. P r (childrenBy r o)) r) (rowsOf g) → P r (children r)
+unfolding children
+by-rows P = by-row (λ r o. P r (childrenBy r o))
 
 -- a reader of the trees of a sort: so many levels of the tree at a record
 module _ {A : Type 0} (rs : List Record) (Of : Record → Type 0) (read : ℕ → ℕ → A) where

@@ -1,3 +1,6 @@
+pub mod Declared
+pub mod Distinct
+pub mod SameTrees
 pub mod Values
 pub mod Whole
 pub mod Tests
