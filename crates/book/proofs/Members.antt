@@ -3,9 +3,8 @@
 use Prim.Native.Nat.{ℕ, zero, suc, _+_, _≤_, _<_}
 use mathlib.Core.Bool.{Bool, true, false, cond, false≢true}
 use mathlib.Core.List.{List, [], _∷_, map, List·Memᴰ, List·Memᴰ·head, List·Memᴰ·tail, List·Memᴰ·not-nil, List·Memᴰ·cases-cons}
-use mathlib.Core.Logic.{_⊎_, inl, inr, ⊎-elim, _↔_}
+use mathlib.Core.Logic.{⊎-elim}
 use mathlib.Core.Path.{_≡_, refl, sym, ap, _∙_}
-use native.Mathlib.Decide.{ℕ-discrete}
 use native.Mathlib.Omega.{arith}
 use lib.ListN.{length, take, getD}
 use Rattle.book.specs.Lists.{any, keep, from, upTo}
@@ -39,21 +38,17 @@ module _ {A : Type 0} where
           (List·Memᴰ·cases-cons m)
       go false t rest m = (List·Memᴰ·tail (rest m .0), rest m .1)
 
-  pub keep-mem : {x : A} (test : A → Bool) (l : List A) → List·Memᴰ x l → test x ≡ true → List·Memᴰ x (keep test l)
+  pub keep-mem : {x : A} {l : List A} (test : A → Bool) → List·Memᴰ x l → test x ≡ true → List·Memᴰ x (keep test l)
   unfolding keep
-  keep-mem test [] m t = absurd (List·Memᴰ·not-nil m)
-  keep-mem {x} test (y ∷ l) m t = go (test y) refl (λ n. keep-mem test l n t) (List·Memᴰ·cases-cons m)
+  keep-mem test (List·Memᴰ·head e) t = rw (sym (ap test e) ∙ t) (List·Memᴰ·head e)
+  keep-mem {x} test (List·Memᴰ·tail {x = y} {xs} m) t = go (test y) (keep-mem test m t)
     where
-      go :
-          (b : Bool) → test y ≡ b → (List·Memᴰ x l → List·Memᴰ x (keep test l)) → (x ≡ y) ⊎ List·Memᴰ x l →
-          List·Memᴰ x (cond b (y ∷ keep test l) (keep test l))
-      go true u rest (inl e) = List·Memᴰ·head e
-      go true u rest (inr n) = List·Memᴰ·tail (rest n)
-      go false u rest (inl e) = absurd (false≢true (sym u ∙ ap test (sym e) ∙ t))
-      go false u rest (inr n) = rest n
+      go : (b : Bool) → List·Memᴰ x (keep test xs) → List·Memᴰ x (cond b (y ∷ keep test xs) (keep test xs))
+      go true k = List·Memᴰ·tail k
+      go false k = k
 
-  -- some element passes, or none
-  any-mem : (test : A → Bool) (l : List A) → any test l ≡ true → (x : A) × List·Memᴰ x l × (test x ≡ true)
+  -- some element passes
+  pub any-mem : (test : A → Bool) (l : List A) → any test l ≡ true → (x : A) × List·Memᴰ x l × (test x ≡ true)
   unfolding any
   any-mem test [] e = absurd (false≢true e)
   any-mem test (y ∷ l) e = go (test y) refl (any-mem test l) e
@@ -64,7 +59,7 @@ module _ {A : Type 0} where
       go true t rest e = (y, List·Memᴰ·head refl, t)
       go false t rest e = let (x, m, u) = rest e in (x, List·Memᴰ·tail m, u)
 
-  mem-any : {x : A} {l : List A} (test : A → Bool) → List·Memᴰ x l → test x ≡ true → any test l ≡ true
+  pub mem-any : {x : A} {l : List A} (test : A → Bool) → List·Memᴰ x l → test x ≡ true → any test l ≡ true
   unfolding any
   mem-any test (List·Memᴰ·head e) t = rw (ap test (sym e) ∙ t, any) refl
   mem-any test (List·Memᴰ·tail {x = y} {xs} m) t = go (test y) (mem-any test m t)
@@ -72,20 +67,6 @@ module _ {A : Type 0} where
       go : (b : Bool) → any test xs ≡ true → elim b [ true ↦ true | false ↦ any test xs ] ≡ true
       go true h = refl
       go false h = h
-
-  pub any-passes : (test : A → Bool) (l : List A) → (any test l ≡ true) ↔ ((x : A) × List·Memᴰ x l × (test x ≡ true))
-  any-passes test l = (any-mem test l, λ h. mem-any test (h .1) (h .2))
-
-  pub none-passes : (test : A → Bool) (l : List A) → (any test l ≡ false) ↔ ((x : A) → List·Memᴰ x l → test x ≡ false)
-  none-passes test l = (λ e x m. fails x (test x) refl e m, λ h. none-is (any test l) refl h)
-    where
-      fails : (x : A) (b : Bool) → test x ≡ b → any test l ≡ false → List·Memᴰ x l → b ≡ false
-      fails x true t e m = sym (mem-any test m t) ∙ e
-      fails x false t e m = refl
-
-      none-is : (b : Bool) → any test l ≡ b → ((x : A) → List·Memᴰ x l → test x ≡ false) → b ≡ false
-      none-is true e h = let (x, m, t) = any-mem test l e in sym t ∙ h x m
-      none-is false e h = refl
 
   -- element n stands among the first k
   pub at-mem-take : (l : List A) (n k : ℕ) (d : A) → n < length l → n < k → List·Memᴰ (getD l n d) (take k l)
@@ -104,20 +85,8 @@ mem-from {k} n (suc m) h =
     (λ t. let (low, high) = mem-from (suc n) m t in (omega arith, omega arith))
     (List·Memᴰ·cases-cons h)
 
-pub from-mem : (n m k : ℕ) → n ≤ k → k < n + m → List·Memᴰ k (from n m)
-unfolding from
-from-mem n zero k low high = absurd (omega arith)
-from-mem n (suc m) k low high = go (ℕ-discrete k n) (from-mem (suc n) m k)
-  where
-    go : Dec (k ≡ n) → (suc n ≤ k → k < suc n + m → List·Memᴰ k (from (suc n) m)) → List·Memᴰ k (n ∷ from (suc n) m)
-    go (yes e) rest = List·Memᴰ·head e
-    go (no ne) rest = List·Memᴰ·tail (rest (omega arith) (omega arith))
-
 pub mem-up-to : {k : ℕ} (n : ℕ) → List·Memᴰ k (upTo n) → k < n
 mem-up-to n h = let (low, high) = mem-from 0 n h in omega arith
-
-pub up-to-mem : (n k : ℕ) → k < n → List·Memᴰ k (upTo n)
-up-to-mem n k less = from-mem 0 n k (omega arith) (omega arith)
 
 pub at-from : (n m k d : ℕ) → k < m → getD (from n m) k d ≡ n + k
 unfolding from

@@ -1,17 +1,15 @@
 -- What two lists of constants have in common they settle alike.
 -- Assumes nothing.
 use Prim.Native.Nat.{ℕ}
-use mathlib.Core.Bool.{Bool, true, false, not, cond, true≢false, false≢true}
+use mathlib.Core.Bool.{Bool, true, false, not, cond, true≢false}
 use mathlib.Core.List.{List, [], _∷_, List·Memᴰ, List·Memᴰ·head, List·Memᴰ·tail}
-use mathlib.Core.Option.{Option}
 use mathlib.Core.Path.{_≡_, refl, sym, _∙_, ap, subst}
-use lib.IntN.{ℤ}
 use Rattle.book.specs.Lists.{keep}
 use Rattle.constants.specs.Expr.{Expr, refs}
 use Rattle.constants.specs.Eval.{Table, evalConstExpr}
 use Rattle.constants.specs.Order.{Constant, Way, each, once, Reached, reached, has, declares, declaredRefs, repeats, admits}
 use Rattle.constants.specs.Theory.{Distinct, orElse, IsFinal}
-use Rattle.constants.proofs.Tests.{has-mem, mem-has, declares-mem, mem-declares}
+use Rattle.constants.proofs.Tests.{mem-has, declares-mem, mem-declares}
 use Rattle.constants.proofs.Eval.{eval-agree}
 
 -- two tests that agree on the members of a list keep the same

@@ -1,8 +1,8 @@
 -- Rings, and two lists of constants of which one has the other's.
 -- Assumes nothing.
 use Prim.Native.Nat.{ℕ}
-use mathlib.Core.Bool.{Bool, true, false, true≢false, false≢true}
-use mathlib.Core.List.{List, List·Memᴰ, Memᴰ·cast}
+use mathlib.Core.Bool.{Bool, true, false, true≢false}
+use mathlib.Core.List.{List, List·Memᴰ}
 use mathlib.Core.Logic.{⊎-elim}
 use mathlib.Core.Option.{Option, some, none, Option·none-ne-some}
 use mathlib.Core.Path.{_≡_, refl, sym, _∙_, ap, subst}
@@ -10,13 +10,13 @@ use lib.IntN.{ℤ}
 use Rattle.constants.specs.Expr.{Expr, refs}
 use Rattle.constants.specs.Eval.{Table, evalConstExpr}
 use Rattle.constants.specs.Order.{Constant, Way, Reached, reached, has, declares}
-use Rattle.constants.specs.Leads.{Leads, names, further, LiesOnRing, LeadsIntoRing}
-use Rattle.constants.specs.Theory.{Distinct, orElse, IsFinal, SettlesAs, Settles, Stores}
+use Rattle.constants.specs.Leads.{Leads, names, further, LiesOnRing}
+use Rattle.constants.specs.Theory.{Distinct, orElse, SettlesAs, Settles, Stores}
 use Rattle.constants.specs.Changes.{Has, NoneBefore, NothingOnRings, Extension, RestsOnStored, ExtensionKeeps, Reordering}
 use Rattle.constants.specs.Changes.{RemovalKeeps, RemovalLoses, RemovalAddsNone}
 use Rattle.constants.proofs.Tests.{has-mem, declares-mem, mem-declares}
 use Rattle.constants.proofs.Eval.{eval-strict}
-use Rattle.constants.proofs.Carry.{reached-declared, reached-names, undeclared, Carried, carry}
+use Rattle.constants.proofs.Carry.{reached-declared, reached-names, undeclared, carry}
 use Rattle.constants.proofs.Final.{final, is-final, settles-if}
 
 -- Rings: what is reached leads to what is reached, and not to itself

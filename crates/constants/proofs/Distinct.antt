@@ -14,7 +14,7 @@ use Rattle.book.specs.Refusal.{name, at, faulty}
 use Rattle.book.specs.First.{hasPlace}
 use Rattle.book.specs.Outline.{read}
 use Rattle.book.proofs.First.{passed-by-all}
-use Rattle.book.proofs.Members.{any-passes, at-mem-take}
+use Rattle.book.proofs.Members.{mem-any, at-mem-take}
 use Rattle.book.proofs.Records.{records-length}
 use Rattle.constants.specs.Declared.{constantAt}
 use Rattle.constants.specs.SameTrees.{AcceptedIsDistinct}
@@ -36,11 +36,8 @@ declared-again :
 unfolding nameFault
 declared-again rs j k less first is is′ same =
     rw (set-of-constants (recordOf rs k) is′, nameFault)
-    (any-passes _ (take k rs) .1 (
-      recordOf rs j,
-      before rs j k less first,
-      rw (set-of-constants (recordOf rs j) is, eq-eqb (recordOf rs j .a) (recordOf rs k .a) same) refl,
-    ))
+    (mem-any _ (before rs j k less first)
+    (rw (set-of-constants (recordOf rs j) is, eq-eqb (recordOf rs j .a) (recordOf rs k .a) same) refl))
 
 pub accepted-is-distinct : AcceptedIsDistinct
 unfolding read constantAt hasPlace faulty

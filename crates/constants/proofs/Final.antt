@@ -1,20 +1,18 @@
 -- The final table: whatever the order, there is one, and each constant has the value of its expression over it.
 -- Assumes nothing.
 use Prim.Native.Nat.{ℕ}
-use mathlib.Core.Bool.{Bool, true, false, not, true≢false, false≢true, cond}
+use mathlib.Core.Bool.{Bool, true, false, true≢false}
 use mathlib.Core.List.{List, [], _∷_, List·Memᴰ, List·Memᴰ·head, List·Memᴰ·tail, List·Memᴰ·cases-cons, List·Memᴰ·not-nil, Memᴰ·cast}
 use mathlib.Core.Logic.{_↔_, ⊎-elim}
-use mathlib.Core.Option.{Option, some, none}
+use mathlib.Core.Option.{Option}
 use mathlib.Core.Path.{_≡_, refl, sym, _∙_, ap, subst}
 use lib.IntN.{ℤ}
-use Rattle.book.specs.Lists.{keep}
-use Rattle.constants.specs.Expr.{Expr, refs}
-use Rattle.constants.specs.Eval.{Table, empty, store, evalConstExpr}
-use Rattle.constants.specs.Order.{Constant, Way, each, once, Settled, Reached, reached, has, declares, declaredRefs, repeats, admits, ready, order, settle, outcome}
+use Rattle.constants.specs.Eval.{Table, store, evalConstExpr}
+use Rattle.constants.specs.Order.{Constant, Way, Settled, Reached, has, declares, order, settle, outcome}
 use Rattle.constants.specs.Theory.{Distinct, InTurn, after, orElse, IsFinal, AnyOrderIsFinal, FinalIsOne, SettledOverFinal, SettlesAs}
-use Rattle.constants.proofs.Tests.{has-mem, mem-has, declares-mem, mem-declares, is-ready}
+use Rattle.constants.proofs.Tests.{mem-has, declares-mem, mem-declares, is-ready}
 use Rattle.constants.proofs.Eval.{eval-agree, store-own, store-other}
-use Rattle.constants.proofs.Carry.{Carried, carry}
+use Rattle.constants.proofs.Carry.{carry}
 use Rattle.constants.proofs.Order.{has-later, taken-declared, order-is-in-turn, in-turn-takes-reached}
 
 -- a name that is not taken keeps what it had

@@ -9,13 +9,13 @@ use mathlib.Core.Path.{_≡_, refl, sym, _∙_, ap, subst}
 use native.Mathlib.Omega.{arith}
 use lib.Dec.{eqb}
 use lib.ListN.{length}
-use borrow.Author.Tests.{eqb-true, eq-eqb, not-true, not-false}
+use borrow.Author.Tests.{eqb-true, eq-eqb}
 use Rattle.book.specs.Lists.{any, find, keep}
 use Rattle.book.proofs.Lists.{keep-length}
 use Rattle.constants.specs.Expr.{refs}
-use Rattle.constants.specs.Order.{Constant, Way, Reached, reached, has, declares, admits, ready, orderFrom, order}
+use Rattle.constants.specs.Order.{Constant, Way, Reached, reached, has, ready, orderFrom, order}
 use Rattle.constants.specs.Theory.{Distinct, InTurn, OrderIsInTurn, InTurnTakesReached}
-use Rattle.constants.proofs.Tests.{any-mem, mem-any, keep-mem, has-mem, mem-has, declares-mem, mem-declares, IsReady, is-ready, ready-if}
+use Rattle.constants.proofs.Tests.{has-mem, mem-has, declares-mem, mem-declares, IsReady, is-ready, ready-if}
 
 -- fewer pass a test that more fail
 module _ {A : Type 0} (p q : A → Bool) (h : (x : A) → q x ≡ true → p x ≡ true) where

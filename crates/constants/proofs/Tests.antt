@@ -1,60 +1,15 @@
 -- What the tests of the order say: of members of a list, and of a constant that is ready.
 -- Assumes nothing.
 use Prim.Native.Nat.{ℕ}
-use mathlib.Core.Bool.{Bool, true, false, not, _&&_, cond, true≢false, false≢true}
-use mathlib.Core.List.{List, [], _∷_, List·Memᴰ, List·Memᴰ·head, List·Memᴰ·tail, List·Memᴰ·cases-cons, List·Memᴰ·not-nil, Memᴰ·cast}
-use mathlib.Core.Logic.{⊎-elim}
+use mathlib.Core.Bool.{Bool, true, false, not, _&&_, true≢false, false≢true}
+use mathlib.Core.List.{List, List·Memᴰ, Memᴰ·cast}
 use mathlib.Core.Path.{_≡_, refl, sym, _∙_, ap}
-use borrow.Author.Tests.{eqb-true, eq-eqb, not-true, not-false}
+use borrow.Author.Tests.{eqb-true, eq-eqb, not-true}
 use lib.Dec.{eqb}
 use Rattle.book.specs.Lists.{any, keep}
+use Rattle.book.proofs.Members.{mem-keep, keep-mem, any-mem, mem-any}
 use Rattle.constants.specs.Expr.{refs}
 use Rattle.constants.specs.Order.{Constant, Way, has, declares, declaredRefs, admits, ready}
-
--- some member passes, or none does
-module _ {A : Type 0} (test : A → Bool) where
-  pub any-mem : (l : List A) → any test l ≡ true → (x : A) × List·Memᴰ x l × (test x ≡ true)
-  unfolding any
-  any-mem [] e = absurd (false≢true e)
-  any-mem (x ∷ l) e = go (test x) refl e (any-mem l)
-    where
-      go :
-          (b : Bool) → test x ≡ b → elim b [ true ↦ true | false ↦ any test l ] ≡ true →
-          (any test l ≡ true → (y : A) × List·Memᴰ y l × (test y ≡ true)) →
-          (y : A) × List·Memᴰ y (x ∷ l) × (test y ≡ true)
-      go true h e rest = (x, List·Memᴰ·head refl, h)
-      go false h e rest = let y = rest e in (y .0, List·Memᴰ·tail (y .1), y .2)
-
-  pub mem-any : {x : A} {l : List A} → List·Memᴰ x l → test x ≡ true → any test l ≡ true
-  unfolding any
-  mem-any (List·Memᴰ·head {x = y} e) h = rw (sym (ap test e) ∙ h, any) refl
-  mem-any (List·Memᴰ·tail {x = y} {xs = l} m) h = go (test y) (mem-any m h)
-    where
-      go : (b : Bool) → any test l ≡ true → elim b [ true ↦ true | false ↦ any test l ] ≡ true
-      go true e = refl
-      go false e = e
-
-  pub mem-keep : {x : A} (l : List A) → List·Memᴰ x (keep test l) → List·Memᴰ x l × (test x ≡ true)
-  unfolding keep
-  mem-keep [] m = absurd (List·Memᴰ·not-nil m)
-  mem-keep {x} (y ∷ l) m = go (test y) refl m (mem-keep l)
-    where
-      go :
-          (b : Bool) → test y ≡ b → List·Memᴰ x (cond b (y ∷ keep test l) (keep test l)) →
-          (List·Memᴰ x (keep test l) → List·Memᴰ x l × (test x ≡ true)) →
-          List·Memᴰ x (y ∷ l) × (test x ≡ true)
-      go true e m rest =
-          ⊎-elim (λ q. (List·Memᴰ·head q, ap test q ∙ e)) (λ t. (List·Memᴰ·tail (rest t .0), rest t .1)) (List·Memᴰ·cases-cons m)
-      go false e m rest = (List·Memᴰ·tail (rest m .0), rest m .1)
-
-  pub keep-mem : {x : A} {l : List A} → List·Memᴰ x l → test x ≡ true → List·Memᴰ x (keep test l)
-  unfolding keep
-  keep-mem (List·Memᴰ·head {x = y} e) h = rw (sym (ap test e) ∙ h) (List·Memᴰ·head e)
-  keep-mem {x} (List·Memᴰ·tail {x = y} {xs = l} m) h = go (test y) (keep-mem m h)
-    where
-      go : (b : Bool) → List·Memᴰ x (keep test l) → List·Memᴰ x (cond b (y ∷ keep test l) (keep test l))
-      go true k = List·Memᴰ·tail k
-      go false k = k
 
 -- a name among names; a name that is declared
 pub has-mem : (n : ℕ) (ns : List ℕ) → has n ns ≡ true → List·Memᴰ n ns
