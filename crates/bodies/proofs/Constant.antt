@@ -1,13 +1,17 @@
--- The records of reached constants: within their widths, if the book's are and the values are words; as many marked stored as have a value.
+-- The records of reached constants: within their widths, if the book's are and the values are words; one for each constant, in their order; as
+-- many marked stored as are counted.
 -- Assumes nothing.
-use Prim.Native.Nat.{ℕ, _+_, _^_, _<_}
-use mathlib.Core.List.{List, [], _∷_}
+use Prim.Native.Nat.{ℕ, suc, _^_, _<_}
+use mathlib.Core.List.{List, [], _∷_, map}
 use mathlib.Core.Option.{Option, some, none}
-use mathlib.Core.Path.{_≡_, refl}
+use mathlib.Core.Path.{_≡_, refl, ap}
 use native.Mathlib.Omega.{arith}
+use lib.Dec.{eqb}
 use lib.IntN.{ℤ}
+use lib.ListN.{length}
 use Rattle.record.specs.declared.Record.{Record}
 use Rattle.record.specs.Layout.{Within}
+use Rattle.arith.specs.Word.{word}
 use Rattle.book.specs.Lists.{All, keep}
 use Rattle.book.specs.Outline.{Book, _!_}
 use Rattle.constants.specs.Order.{Settled}
@@ -16,11 +20,11 @@ use Rattle.types.specs.Lowering.{andThen}
 use Rattle.types.specs.Events.{writes, events, written}
 use Rattle.types.specs.Step.{_>>_, emit, give}
 use Rattle.types.proofs.Steps.{Fine, Keeps, keeps-give, keeps-at, keeps-emit, keeps-tell, keeps-then, keeps-next}
-use Rattle.types.proofs.Counts.{Stores, stores-then, stores-after}
+use Rattle.types.proofs.Passing.{Writes, writes-then, writes-after}
 use Rattle.types.proofs.Resolving.{within, keeps-type}
 use Rattle.bodies.specs.Constant.{tellUnless, constantRecord, lowerConstant, lowerConstants, storedCount}
 
--- within their widths, where it is not asked that no 41 is marked stored
+-- within their widths, where it is not asked that no result is a 41
 module _ {W S : Type 0} where
   keeps-tell-unless : (o : Option ℤ) (r : Record) → (W → Within r) → Keeps W S (λ x. Unit) (tellUnless o r)
   unfolding tellUnless
@@ -32,7 +36,7 @@ module _ {W S : Type 0} where
       Fine W S (writes (constantRecord o r type))
   unfolding constantRecord
   fine-constant (some z) r type no-s h = (λ s. absurd (no-s s), λ w. omega (arith, h w))
-  fine-constant none r type no-s h = (λ s. refl, λ w. omega (arith, h w))
+  fine-constant none r type no-s h = (λ s. absurd (no-s s), λ w. omega (arith, h w))
 
 module _ {W S : Type 0} (book : Book) (given : W → All Within (book .records)) where
   keeps-constant : (S → ⊥) → (c : Settled) → (W → IsWord (c .value)) → Keeps W S (λ x. Unit) (lowerConstant book c)
@@ -55,28 +59,49 @@ module _ {W S : Type 0} (book : Book) (given : W → All Within (book .records))
   keeps-constants no-s [] h = keeps-give tt tt
   keeps-constants no-s (c ∷ cs) h = keeps-next (keeps-constant no-s c (λ w. h w .0)) (keeps-constants no-s cs (λ w. h w .1))
 
--- one 41 marked stored for a value
-abbrev worth : Option ℤ → ℕ
-worth none = 0
-worth (some z) = 1
+-- a 41 as a, sub and v
+abbrev said : Record → ℕ × ℕ × ℕ
+said r = (r .a, r .sub, r .v)
 
-stores-record :
-    (o : Option ℤ) (m r : Record) (type : ℕ) →
-    Stores {A = Unit} (worth o) (tellUnless o m >> (emit (constantRecord o r type) >> give tt))
+-- that of a constant: marked stored if there is a value
+abbrev pub constantSaid : Settled → ℕ × ℕ × ℕ
+constantSaid c = elim (c .value) [ some z ↦ (c .constant .name, 1, word z) | none ↦ (c .constant .name, 0, 0) ]
+
+-- a constant with the name of its record
+abbrev Named : Book → Settled → Type 0
+Named book c = (book ! (c .constant .place)) .a ≡ c .constant .name
+
+writes-record :
+    (book : Book) (c : Settled) → Named book c → (o : Option ℤ) → c .value ≡ o → (m : Record) (type : ℕ) →
+    Writes {A = Unit} said (constantSaid c ∷ [])
+    (tellUnless o m >> (emit (constantRecord o (book ! (c .constant .place)) type) >> give tt))
 unfolding tellUnless constantRecord andThen events written keep
-stores-record none m r type = record { so-many = λ s n. refl }
-stores-record (some z) m r type = record { so-many = λ s n. refl }
+writes-record book c name none e m type = record { exactly = λ s n. rw (e, name) }
+writes-record book c name (some z) e m type = record { exactly = λ s n. rw (e, name) }
 
-stores-constant : (book : Book) (c : Settled) → Stores (worth (c .value)) (lowerConstant book c)
+writes-constant : (book : Book) (c : Settled) → Named book c → Writes said (constantSaid c ∷ []) (lowerConstant book c)
 unfolding lowerConstant
-stores-constant book c =
-    stores-after (keeps-at _) (λ x. stores-after (keeps-type book (λ w. absurd w) _) (λ t. stores-record (c .value) _ _ _))
+writes-constant book c name =
+    writes-after (keeps-at _)
+    (λ x. writes-after (keeps-type book (λ w. absurd w) _) (λ t. writes-record book c name (c .value) refl _ _))
 
-pub stores-constants : (book : Book) (cs : List Settled) → Stores (storedCount cs) (lowerConstants book cs)
-unfolding lowerConstants storedCount events written keep
-stores-constants book [] = record { so-many = λ s n. refl }
-stores-constants book (c ∷ cs) = stores-then (stores-constant book c) (λ x. stores-constants book cs) (go (c .value) refl)
+pub writes-constants :
+    (book : Book) (cs : List Settled) → All (Named book) cs → Writes said (map constantSaid cs) (lowerConstants book cs)
+unfolding lowerConstants events written keep
+writes-constants book [] h = record { exactly = λ s n. refl }
+writes-constants book (c ∷ cs) h = writes-then (writes-constant book c (h .0)) (λ x. writes-constants book cs (h .1))
+
+-- how many of some 41s, each as a, sub and v, are marked stored
+abbrev pub marked : List (ℕ × ℕ × ℕ) → ℕ
+marked xs = length (keep (λ x. eqb (x .1) 1) xs)
+
+pub marked-are-counted : (cs : List Settled) → marked (map constantSaid cs) ≡ storedCount cs
+unfolding storedCount keep
+marked-are-counted [] = refl
+marked-are-counted (c ∷ cs) = go (c .value) refl (marked-are-counted cs)
   where
-    go : (o : Option ℤ) → c .value ≡ o → worth (c .value) + storedCount cs ≡ storedCount (c ∷ cs)
-    go none e = rw e (omega arith)
-    go (some z) e = rw e (omega arith)
+    go :
+        (o : Option ℤ) → c .value ≡ o → marked (map constantSaid cs) ≡ storedCount cs →
+        marked (map constantSaid (c ∷ cs)) ≡ storedCount (c ∷ cs)
+    go none p e = rw p e
+    go (some z) p e = rw p (ap suc e)

@@ -30,10 +30,15 @@ both-not : (a b : Bool) → a || b ≡ false → (a ≡ false) × (b ≡ false)
 both-not false b e = (refl, e)
 both-not true b e = absurd (true≢false e)
 
+pub both-so : (a b : Bool) → a && b ≡ true → (a ≡ true) × (b ≡ true)
+both-so true b e = (refl, e)
+both-so false b e = absurd (false≢true e)
+
 all-three : (a b c : Bool) → a && b && c ≡ true → (a ≡ true) × (b ≡ true) × (c ≡ true)
-all-three true true c e = (refl, refl, e)
-all-three true false c e = absurd (false≢true e)
-all-three false b c e = absurd (false≢true e)
+all-three a b c e =
+    let (first, third) = both-so (a && b) c e in
+    let (one, other) = both-so a b first in
+    (one, other, third)
 
 module _ {A : Type 0} where
   all-with : {P Q R : A → Type 0} → ((x : A) → P x → Q x → R x) → (l : List A) → All P l → All Q l → All R l

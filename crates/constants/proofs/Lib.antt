@@ -2,6 +2,7 @@ pub mod Declared
 pub mod Distinct
 pub mod SameTrees
 pub mod Values
+pub mod Named
 pub mod Whole
 pub mod Tests
 pub mod Order

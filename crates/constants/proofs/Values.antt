@@ -24,7 +24,7 @@ use Rattle.constants.specs.Expr.{Literal, int, uint, float, hex, bool, l
 use Rattle.constants.specs.Expr.{Op, add, sub, mul, div, eq, ne, lt, le, gt, ge, opOf}
 use Rattle.constants.specs.Expr.{Expr, literal, reference, operation, exprOf, exprAt}
 use Rattle.constants.specs.Eval.{Table, empty, store, literalValue, apply, applyTo, evalConstExpr}
-use Rattle.constants.specs.Order.{Constant, Way, ready, orderFrom, order, settle, outcome}
+use Rattle.constants.specs.Order.{Constant, Way, each, ready, orderFrom, order, settle, outcome}
 use Rattle.constants.specs.Declared.{constantAt, constants, settled}
 
 -- a value, if there is one, is held by a word
@@ -128,9 +128,13 @@ all-order P (suc most) w cs done h =
     go none p q = tt
     go (some c) p q = (p, q c)
 
+-- and that of a book those at its records
+pub all-ordered : (P : Constant → Type 0) (book : Book) → ((n : ℕ) → P (constantAt book n)) → All P (order each (constants book))
+unfolding order constants
+all-ordered P book h = all-order P _ each (constants book) [] (all-map P (constantAt book) h (numbersOf (isKind 24) book))
+
 pub settled-word : (book : Book) → All Within (book .records) → All (λ x. IsWord (x .value)) (settled book)
-unfolding settled outcome order constants constantAt
+unfolding settled outcome constantAt
 settled-word book h =
     settle-word empty (λ n. tt) _
-    (all-order (λ c. Worded (c .expr)) _ _ (constants book) []
-    (all-map (λ c. Worded (c .expr)) (constantAt book) (λ n. expr-at 64 (book .records) h ((book ! n) .c)) (numbersOf (isKind 24) book)))
+    (all-ordered (λ c. Worded (c .expr)) book (λ n. expr-at 64 (book .records) h ((book ! n) .c)))

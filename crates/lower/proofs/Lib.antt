@@ -1,3 +1,4 @@
 pub mod Slices
 pub mod Written
 pub mod Laws
+pub mod Told

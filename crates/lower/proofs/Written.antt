@@ -1,32 +1,37 @@
--- No step beyond the 65th, records within their widths, and as many 41s marked stored as there are values.
+-- No step beyond the 65th, records within their widths, and the 41s those of the reached constants.
 -- Assumes nothing.
 use Prim.Native.Nat.{ℕ, suc, _^_, _≤_, _<_}
-use mathlib.Core.List.{List, [], _∷_}
-use mathlib.Core.Path.{refl, ap, _∙_, subst}
+use mathlib.Core.Bool.{Bool, true, false}
+use mathlib.Core.List.{List, [], _∷_, append-nil}
+use mathlib.Core.Path.{_≡_, refl, ap, _∙_, subst}
 use native.Mathlib.Omega.{arith}
+use lib.Dec.{eqb}
 use lib.ListN.{length}
 use Rattle.record.specs.declared.Record.{Record}
 use Rattle.record.specs.Layout.{Within}
 use Rattle.book.specs.Blocks.{records}
+use Rattle.book.specs.Faults.{isKind}
 use Rattle.book.specs.Outline.{Book, read}
-use Rattle.book.specs.Lists.{All}
+use Rattle.book.specs.Lists.{All, keep}
 use Rattle.book.proofs.Records.{records-within, few-records}
 use Rattle.constants.specs.Declared.{settled}
 use Rattle.constants.proofs.Values.{IsWord, settled-word}
+use Rattle.constants.proofs.Named.{settled-named}
 use Rattle.types.specs.Lowering.{start}
 use Rattle.types.specs.Events.{Event, lowers, resolves, tells, writes, events, written, told}
 use Rattle.types.specs.Resolved.{Names}
+use Rattle.types.specs.Step.{isStored}
 use Rattle.types.specs.Numbers.{plainAliases, registerDeclarations}
 use Rattle.types.proofs.Does.{all-events, all-split}
 use Rattle.types.proofs.Steps.{Sound, Below, Fine, keeps-next, keeps-each}
 use Rattle.types.proofs.Adds.{finished-adds}
 use Rattle.types.proofs.Start.{start-sound}
-use Rattle.types.proofs.Counts.{stores-then, stores-none, stores-after}
+use Rattle.types.proofs.Passing.{writes-then, writes-none, writes-after}
 use Rattle.types.proofs.Resolving.{keeps-alias}
-use Rattle.bodies.proofs.Constant.{keeps-constants, stores-constants}
+use Rattle.bodies.proofs.Constant.{keeps-constants, writes-constants, marked, marked-are-counted}
 use Rattle.bodies.proofs.Bodies.{keeps-bodies}
 use Rattle.lower.specs.LowerBook.{lowerRecords}
-use Rattle.lower.specs.Written.{NoStepBeyond, StoredAreCounted, WrittenWithin}
+use Rattle.lower.specs.Written.{NoStepBeyond, WrittenWithin, constantsIn, constantOf, ReachedAreWritten, StoredAreCounted}
 
 -- of all that is done for a book. Where W is given, its records, the values of its constants and the names of its declarations are within
 -- their widths, and so are the numbers of results.
@@ -50,15 +55,30 @@ no-step-beyond book before rest d e =
     all-split (Fine ⊥ ⊥) before rest (resolves d)
     (subst (All (Fine ⊥ ⊥)) e (all-fine ⊥ book (λ w. absurd w) (λ m l w. absurd w)))
 
+pub reached-are-written : ReachedAreWritten
+unfolding lowerRecords constantsIn constantOf
+reached-are-written book =
+    (writes-then
+    (writes-after (keeps-each _ (keeps-alias book (λ w. absurd w)) (plainAliases book)) (λ x. writes-constants book (settled book) (settled-named book)))
+    (λ x. writes-none (keeps-bodies book (λ w. absurd w))))
+    .exactly (registerDeclarations book) 0
+    ∙ append-nil _
+
+marked-in : (rs : List Record) → length (keep isStored rs) ≡ marked (constantsIn rs)
+unfolding constantsIn keep
+marked-in [] = refl
+marked-in (r ∷ rs) = go (isKind 41 r) (eqb (r .sub) 1) refl refl (marked-in rs)
+  where
+    go :
+        (b c : Bool) → isKind 41 r ≡ b → eqb (r .sub) 1 ≡ c → length (keep isStored rs) ≡ marked (constantsIn rs) →
+        length (keep isStored (r ∷ rs)) ≡ marked (constantsIn (r ∷ rs))
+    go false c p q e = rw p e
+    go true false p q e = rw (p, q) e
+    go true true p q e = rw (p, q) (ap suc e)
+
 pub stored-are-counted : StoredAreCounted
-unfolding lowerRecords
-stored-are-counted book =
-    (stores-then
-    (stores-after (keeps-each _ (keeps-alias book (λ w. absurd w)) (plainAliases book)) (λ x. stores-constants book (settled book)))
-    (λ x. stores-none (keeps-bodies book (λ w. absurd w)))
-    refl)
-    .so-many (registerDeclarations book) 0
-    ∙ omega arith
+unfolding constantOf
+stored-are-counted book = marked-in _ ∙ ap marked (reached-are-written book) ∙ marked-are-counted (settled book)
 
 -- the results and the diagnostics among events
 all-written : (es : List Event) → All (Fine Unit ⊥) es → All Within (written es) × All Within (told es)

@@ -1,4 +1,5 @@
 pub mod LowerBook
 pub mod Written
 pub mod Laws
+pub mod Told
 pub mod Demand3

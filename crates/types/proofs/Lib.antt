@@ -3,7 +3,7 @@ pub mod Events
 pub mod Adds
 pub mod Does
 pub mod Steps
-pub mod Counts
+pub mod Passing
 pub mod Resolving
 pub mod Found
 pub mod Start

@@ -9,11 +9,12 @@ use lib.Dec.{lit<}
 use Rattle.record.specs.declared.Record.{Record}
 use Rattle.record.specs.declared.Span.{Span}
 use Rattle.record.specs.Layout.{Within}
+use Rattle.book.specs.Faults.{isKind}
 use Rattle.book.specs.Lists.{All}
 use Rattle.types.specs.Events.{Event, lowers, resolves, tells, writes}
 use Rattle.types.specs.Resolved.{ResolvedType, primitive, subByte, semantic, named, oneChild, twoChildren, inlineBits}
 use Rattle.types.specs.Resolved.{Names, POISON}
-use Rattle.types.specs.Step.{Step, Resolved, _>>=_, _>>_, give, at, emit, tell, change, forEach, message, isStored}
+use Rattle.types.specs.Step.{Step, Resolved, _>>=_, _>>_, give, at, emit, tell, change, forEach, message}
 use Rattle.types.specs.Step.{emitType, whole, overOne, overTwo, poison}
 use Rattle.types.proofs.Does.{Does, does-then}
 
@@ -48,13 +49,13 @@ module _ (W : Type 0) where
   abbrev pub Right : Resolved → Type 0
   Right t = W → (t .root < 2 ^ 16) × Sized (t .type)
 
--- Where S is given, no result is a 41 that is marked stored: of an event and of a step, from sound names to sound names
+-- Where S is given, no result is a 41: of an event and of a step, from sound names to sound names
 module _ (W S : Type 0) where
   abbrev pub Fine : Event → Type 0
   Fine (lowers p) = Unit
   Fine (resolves d) = d ≤ 65
   Fine (tells r) = W → Within r
-  Fine (writes r) = (S → isStored r ≡ false) × (W → Within r)
+  Fine (writes r) = (S → isKind 41 r ≡ false) × (W → Within r)
 
   pub record Keeps {A : Type 0} (R : A → Type 0) (m : Step A) : Type 0 where
     pub does :
