@@ -11,7 +11,6 @@ use lib.IntN.{ℤ}
 use lib.ListN.{length}
 use Rattle.record.specs.declared.Record.{Record}
 use Rattle.record.specs.Layout.{Within}
-use Rattle.arith.specs.Word.{word}
 use Rattle.book.specs.Lists.{All, keep}
 use Rattle.book.specs.Outline.{Book, _!_}
 use Rattle.constants.specs.Order.{Settled}
@@ -22,7 +21,7 @@ use Rattle.types.specs.Step.{_>>_, emit, give}
 use Rattle.types.proofs.Steps.{Fine, Keeps, keeps-give, keeps-at, keeps-emit, keeps-tell, keeps-then, keeps-next}
 use Rattle.types.proofs.Passing.{Writes, writes-then, writes-after}
 use Rattle.types.proofs.Resolving.{within, keeps-type}
-use Rattle.bodies.specs.Constant.{tellUnless, constantRecord, lowerConstant, lowerConstants, storedCount}
+use Rattle.bodies.specs.Constant.{tellUnless, constantRecord, lowerConstant, lowerConstants, storedCount, said, constantOf}
 
 -- within their widths, where it is not asked that no result is a 41
 module _ {W S : Type 0} where
@@ -59,34 +58,26 @@ module _ {W S : Type 0} (book : Book) (given : W → All Within (book .records))
   keeps-constants no-s [] h = keeps-give tt tt
   keeps-constants no-s (c ∷ cs) h = keeps-next (keeps-constant no-s c (λ w. h w .0)) (keeps-constants no-s cs (λ w. h w .1))
 
--- a 41 as a, sub and v
-abbrev said : Record → ℕ × ℕ × ℕ
-said r = (r .a, r .sub, r .v)
-
--- that of a constant: marked stored if there is a value
-abbrev pub constantSaid : Settled → ℕ × ℕ × ℕ
-constantSaid c = elim (c .value) [ some z ↦ (c .constant .name, 1, word z) | none ↦ (c .constant .name, 0, 0) ]
-
 -- a constant with the name of its record
 abbrev Named : Book → Settled → Type 0
 Named book c = (book ! (c .constant .place)) .a ≡ c .constant .name
 
 writes-record :
     (book : Book) (c : Settled) → Named book c → (o : Option ℤ) → c .value ≡ o → (m : Record) (type : ℕ) →
-    Writes {A = Unit} said (constantSaid c ∷ [])
+    Writes {A = Unit} said (constantOf c ∷ [])
     (tellUnless o m >> (emit (constantRecord o (book ! (c .constant .place)) type) >> give tt))
-unfolding tellUnless constantRecord andThen events written keep
+unfolding tellUnless constantRecord constantOf andThen events written keep
 writes-record book c name none e m type = record { exactly = λ s n. rw (e, name) }
 writes-record book c name (some z) e m type = record { exactly = λ s n. rw (e, name) }
 
-writes-constant : (book : Book) (c : Settled) → Named book c → Writes said (constantSaid c ∷ []) (lowerConstant book c)
+writes-constant : (book : Book) (c : Settled) → Named book c → Writes said (constantOf c ∷ []) (lowerConstant book c)
 unfolding lowerConstant
 writes-constant book c name =
     writes-after (keeps-at _)
     (λ x. writes-after (keeps-type book (λ w. absurd w) _) (λ t. writes-record book c name (c .value) refl _ _))
 
 pub writes-constants :
-    (book : Book) (cs : List Settled) → All (Named book) cs → Writes said (map constantSaid cs) (lowerConstants book cs)
+    (book : Book) (cs : List Settled) → All (Named book) cs → Writes said (map constantOf cs) (lowerConstants book cs)
 unfolding lowerConstants events written keep
 writes-constants book [] h = record { exactly = λ s n. refl }
 writes-constants book (c ∷ cs) h = writes-then (writes-constant book c (h .0)) (λ x. writes-constants book cs (h .1))
@@ -95,13 +86,13 @@ writes-constants book (c ∷ cs) h = writes-then (writes-constant book c (h .0))
 abbrev pub marked : List (ℕ × ℕ × ℕ) → ℕ
 marked xs = length (keep (λ x. eqb (x .1) 1) xs)
 
-pub marked-are-counted : (cs : List Settled) → marked (map constantSaid cs) ≡ storedCount cs
-unfolding storedCount keep
+pub marked-are-counted : (cs : List Settled) → marked (map constantOf cs) ≡ storedCount cs
+unfolding storedCount constantOf keep
 marked-are-counted [] = refl
 marked-are-counted (c ∷ cs) = go (c .value) refl (marked-are-counted cs)
   where
     go :
-        (o : Option ℤ) → c .value ≡ o → marked (map constantSaid cs) ≡ storedCount cs →
-        marked (map constantSaid (c ∷ cs)) ≡ storedCount (c ∷ cs)
+        (o : Option ℤ) → c .value ≡ o → marked (map constantOf cs) ≡ storedCount cs →
+        marked (map constantOf (c ∷ cs)) ≡ storedCount (c ∷ cs)
     go none p e = rw p e
     go (some z) p e = rw p (ap suc e)

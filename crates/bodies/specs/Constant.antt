@@ -1,14 +1,16 @@
 -- The records of reached constants. Words in quotation marks are document 01's.
 -- Assumes nothing.
 use Prim.Native.Nat.{ℕ, suc}
-use mathlib.Core.List.{List, [], _∷_}
+use mathlib.Core.List.{List, [], _∷_, map}
 use mathlib.Core.Option.{Option, some, none}
 use lib.IntN.{ℤ}
 use Rattle.record.specs.declared.Record.{Record}
 use Rattle.arith.specs.Word.{word}
+use Rattle.book.specs.Lists.{keep}
+use Rattle.book.specs.Faults.{isKind}
 use Rattle.book.specs.Outline.{Book, _!_}
 use Rattle.constants.specs.Order.{Settled}
-use Rattle.types.specs.Step.{Step, _>>=_, _>>_, give, at, emit, tell, message}
+use Rattle.types.specs.Step.{Step, _>>_, give, at, emit, tell, message}
 use Rattle.types.specs.Resolve.{resolveType}
 
 -- "reached without a value gives message 5", which "takes the expression's span"; "v [..] 2 `ConstRefNotFound` (message 5)"
@@ -47,3 +49,14 @@ storedCount (c ∷ cs) = plus (c .value) (storedCount cs)
     plus : Option ℤ → ℕ → ℕ
     plus none n = n
     plus (some z) n = suc n
+
+-- a 41 as a, sub and v; the 41s among some records
+abbrev pub said : Record → ℕ × ℕ × ℕ
+said r = (r .a, r .sub, r .v)
+
+unfoldable pub constantsIn : List Record → List (ℕ × ℕ × ℕ)
+constantsIn rs = map said (keep (isKind 41) rs)
+
+-- what the 41 of a constant says: its name; whether it is stored; its "value or 0"
+unfoldable pub constantOf : Settled → ℕ × ℕ × ℕ
+constantOf x = elim (x .value) [ some z ↦ (x .constant .name, 1, word z) | none ↦ (x .constant .name, 0, 0) ]

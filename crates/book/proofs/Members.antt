@@ -1,26 +1,13 @@
--- What stands in a list: in a mapped one, among the elements that pass, among the numbers below a bound, and what `any` says of it.
+-- What stands in a list: among the elements that pass, among the numbers below a bound, and what `any` says of it.
 -- Assumes nothing.
 use Prim.Native.Nat.{ℕ, zero, suc, _+_, _≤_, _<_}
 use mathlib.Core.Bool.{Bool, true, false, cond, false≢true}
-use mathlib.Core.List.{List, [], _∷_, map, List·Memᴰ, List·Memᴰ·head, List·Memᴰ·tail, List·Memᴰ·not-nil, List·Memᴰ·cases-cons}
+use mathlib.Core.List.{List, [], _∷_, List·Memᴰ, List·Memᴰ·head, List·Memᴰ·tail, List·Memᴰ·not-nil, List·Memᴰ·cases-cons}
 use mathlib.Core.Logic.{⊎-elim}
 use mathlib.Core.Path.{_≡_, refl, sym, ap, _∙_}
 use native.Mathlib.Omega.{arith}
 use lib.ListN.{length, take, getD}
 use Rattle.book.specs.Lists.{any, keep, from, upTo}
-
-module _ {A B : Type 0} where
-  pub mem-map : {y : B} (f : A → B) (l : List A) → List·Memᴰ y (map f l) → (x : A) × List·Memᴰ x l × (y ≡ f x)
-  mem-map f [] m = absurd (List·Memᴰ·not-nil m)
-  mem-map f (x ∷ l) m =
-      ⊎-elim
-      (λ e. (x, List·Memᴰ·head refl, e))
-      (λ n. let (z, k, e) = mem-map f l n in (z, List·Memᴰ·tail k, e))
-      (List·Memᴰ·cases-cons m)
-
-  pub map-mem : {x : A} {l : List A} (f : A → B) → List·Memᴰ x l → List·Memᴰ (f x) (map f l)
-  map-mem f (List·Memᴰ·head e) = List·Memᴰ·head (ap f e)
-  map-mem f (List·Memᴰ·tail m) = List·Memᴰ·tail (map-mem f m)
 
 module _ {A : Type 0} where
   pub mem-keep : {x : A} (test : A → Bool) (l : List A) → List·Memᴰ x (keep test l) → List·Memᴰ x l × (test x ≡ true)

@@ -2,7 +2,7 @@
 -- Assumes nothing.
 use Prim.Native.Nat.{ℕ, _<_}
 use mathlib.Core.Bool.{Bool, true, false, _&&_, false≢true}
-use mathlib.Core.List.{List, List·Memᴰ}
+use mathlib.Core.List.{List, List·Memᴰ, Memᴰ·of-map}
 use mathlib.Core.Option.{Option, some, none}
 use mathlib.Core.Path.{_≡_, sym, ap, subst}
 use lib.Dec.{leb}
@@ -15,7 +15,7 @@ use Rattle.book.specs.Shape.{Child, childIn, childrenBy, children}
 use Rattle.book.specs.Faults.{recordOf, isKind}
 use Rattle.book.specs.Outline.{Book, _!_, numbersOf}
 use Rattle.book.specs.Trees.{IsChild, Readable}
-use Rattle.book.proofs.Members.{mem-map, mem-keep, mem-up-to}
+use Rattle.book.proofs.Members.{mem-keep, mem-up-to}
 use Rattle.book.proofs.Trees.{withKind}
 use Rattle.constants.specs.Order.{Constant}
 use Rattle.constants.specs.Declared.{constantAt, constants}
@@ -27,7 +27,8 @@ IsAt book c n = (c ≡ constantAt book n) × (n < length (book .records)) × ((b
 pub declared-at : {c : Constant} (book : Book) → List·Memᴰ c (constants book) → IsAt book c (c .place)
 unfolding constants numbersOf constantAt
 declared-at {c} book m =
-    let (n, among, e) = mem-map (constantAt book) (numbersOf (isKind 24) book) m in
+    let (n, among, is-c) = Memᴰ·of-map (constantAt book) (numbersOf (isKind 24) book) m in
+    let e = sym is-c in
     let (below, is) = mem-keep (λ n. isKind 24 (book ! n)) _ among in
     subst (IsAt book c) (sym (ap (λ c. c .place) e)) (e, mem-up-to _ below, eqb-true _ _ is)
 

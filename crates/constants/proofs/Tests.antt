@@ -1,13 +1,14 @@
 -- What the tests of the order say: of members of a list, and of a constant that is ready.
 -- Assumes nothing.
 use Prim.Native.Nat.{ℕ}
-use mathlib.Core.Bool.{Bool, true, false, not, _&&_, true≢false, false≢true}
+use mathlib.Core.Bool.{Bool, true, false, not, true≢false}
 use mathlib.Core.List.{List, List·Memᴰ, Memᴰ·cast}
 use mathlib.Core.Path.{_≡_, refl, sym, _∙_, ap}
 use borrow.Author.Tests.{eqb-true, eq-eqb, not-true}
 use lib.Dec.{eqb}
 use Rattle.book.specs.Lists.{any, keep}
 use Rattle.book.proofs.Members.{mem-keep, keep-mem, any-mem, mem-any}
+use Rattle.book.proofs.Trees.{both-so}
 use Rattle.constants.specs.Expr.{refs}
 use Rattle.constants.specs.Order.{Constant, Way, has, declares, declaredRefs, admits, ready}
 
@@ -24,10 +25,6 @@ declares-mem cs n h = let x = any-mem (λ d. eqb (d .name) n) cs h in (x .0, x .
 pub mem-declares : {cs : List Constant} {d : Constant} (n : ℕ) → List·Memᴰ d cs → d .name ≡ n → declares cs n ≡ true
 mem-declares {d} n m e = mem-any (λ d. eqb (d .name) n) m (eq-eqb (d .name) n e)
 
-both : (a b : Bool) → a && b ≡ true → (a ≡ true) × (b ≡ true)
-both true b e = (refl, e)
-both false b e = absurd (false≢true e)
-
 -- c is ready: not done, admitted, and what it names of the declared is done
 pub record IsReady (w : Way) (cs : List Constant) (done : List ℕ) (c : Constant) : Type 0 where
   pub fresh : has (c .name) done ≡ false
@@ -37,8 +34,8 @@ pub record IsReady (w : Way) (cs : List Constant) (done : List ℕ) (c : Constan
 pub is-ready : (w : Way) (cs : List Constant) (done : List ℕ) (c : Constant) → ready w cs done c ≡ true → IsReady w cs done c
 unfolding ready declaredRefs
 is-ready w cs done c e =
-    let x = both _ _ e in
-    let y = both _ _ (x .0) in
+    let x = both-so _ _ e in
+    let y = both-so _ _ (x .0) in
     record {
       fresh = not-true _ (y .0);
       admitted = y .1;

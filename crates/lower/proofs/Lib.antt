@@ -2,3 +2,4 @@ pub mod Slices
 pub mod Written
 pub mod Laws
 pub mod Told
+pub mod Demand3

@@ -1,10 +1,8 @@
 -- The 41s in the result slice of an accepted book are those of the reached constants; those marked stored have the stored names and values.
 -- Assumes nothing.
 use Prim.Native.Nat.{ℕ}
-use mathlib.Core.Bool.{Bool, true, false, cond}
-use mathlib.Core.List.{List, [], _∷_, map, List·Memᴰ, List·Memᴰ·head, List·Memᴰ·tail, List·Memᴰ·not-nil, List·Memᴰ·cases-cons}
+use mathlib.Core.List.{List, map, List·Memᴰ}
 use mathlib.Core.List.{Memᴰ·cast, Memᴰ·map, Memᴰ·of-map}
-use mathlib.Core.Logic.{_⊎_, inl, inr}
 use mathlib.Core.Option.{Option, some, none}
 use mathlib.Core.Path.{_≡_, refl, sym, ap, _∙_, subst}
 use native.Mathlib.Omega.{arith}
@@ -17,15 +15,15 @@ use Rattle.book.specs.Faults.{isKind}
 use Rattle.book.specs.Lists.{keep}
 use Rattle.book.specs.Refusal.{firstRefusal}
 use Rattle.book.specs.Outline.{read}
-use Rattle.book.proofs.Lists.{either}
+use Rattle.book.proofs.Members.{mem-keep, keep-mem}
 use Rattle.book.proofs.First.{passed-by-all}
 use Rattle.book.proofs.Trees.{both-so}
 use Rattle.constants.specs.Eval.{empty}
 use Rattle.constants.specs.Order.{Constant, each, Settled, outcome}
 use Rattle.constants.specs.Declared.{settled}
+use Rattle.bodies.specs.Constant.{constantsIn, constantOf}
 use Rattle.lower.specs.LowerBook.{lowerBook}
 use Rattle.lower.specs.Laws.{Leaves, IsAccepted}
-use Rattle.lower.specs.Written.{constantsIn, constantOf}
 use Rattle.lower.specs.Told.{ReachedAreTold, HasStored, StoresWord, StoredAreTold}
 use Rattle.lower.proofs.Written.{reached-are-written}
 use Rattle.lower.proofs.Laws.{accepted-by-none, slices-are-left}
@@ -39,39 +37,13 @@ reached-are-told book results diagnostics r d c bytes e =
     let left = subst (Leaves book results diagnostics (lowerBook book results diagnostics)) e (slices-are-left book results diagnostics bytes) in
     ap constantsIn (left .results-are) ∙ reached-are-written (read book)
 
--- the elements that pass
-module _ {A : Type 0} {x : A} (test : A → Bool) where
-  mem-keep : (l : List A) → List·Memᴰ x (keep test l) → List·Memᴰ x l × (test x ≡ true)
-  unfolding keep
-  mem-keep [] m = absurd (List·Memᴰ·not-nil m)
-  mem-keep (y ∷ l) m = go (test y) refl (mem-keep l) m
-    where
-      go :
-          (b : Bool) → test y ≡ b → (List·Memᴰ x (keep test l) → List·Memᴰ x l × (test x ≡ true)) →
-          List·Memᴰ x (cond b (y ∷ keep test l) (keep test l)) → List·Memᴰ x (y ∷ l) × (test x ≡ true)
-      go false e below k = (List·Memᴰ·tail (below k .0), below k .1)
-      go true e below k = first (List·Memᴰ·cases-cons k)
-        where
-          first : (x ≡ y) ⊎ List·Memᴰ x (keep test l) → List·Memᴰ x (y ∷ l) × (test x ≡ true)
-          first (inl p) = (List·Memᴰ·head p, ap test p ∙ e)
-          first (inr k) = (List·Memᴰ·tail (below k .0), below k .1)
-
-  keep-mem : (l : List A) → List·Memᴰ x l → test x ≡ true → List·Memᴰ x (keep test l)
-  unfolding keep
-  keep-mem [] m e = m
-  keep-mem (y ∷ l) m e = go (List·Memᴰ·cases-cons m) (λ k. keep-mem l k e)
-    where
-      go : (x ≡ y) ⊎ List·Memᴰ x l → (List·Memᴰ x l → List·Memᴰ x (keep test l)) → List·Memᴰ x (keep test (y ∷ l))
-      go (inl p) below = rw (sym (ap test p) ∙ e) (List·Memᴰ·head p)
-      go (inr k) below = either (List·Memᴰ x) (test y) {x = y ∷ keep test l} (List·Memᴰ·tail (below k)) (below k)
-
 -- from the 41s of some records and the reached ones of some constants to those marked stored and those that are stored
 module _ (rs : List Record) (cs : List Constant) (same : constantsIn rs ≡ map constantOf (outcome each empty cs)) (n v : ℕ) where
   stored-there : HasStored rs n v → StoresWord cs n v
   unfolding constantsIn constantOf
   stored-there (x, m, marked, name, value) =
       let (is-41, stored) = both-so (isKind 41 x) (eqb (x .sub) 1) marked in
-      let among : List·Memᴰ (x .a, x .sub, x .v) (constantsIn rs) = Memᴰ·map _ (keep-mem (isKind 41) rs m is-41) in
+      let among : List·Memᴰ (x .a, x .sub, x .v) (constantsIn rs) = Memᴰ·map _ (keep-mem (isKind 41) m is-41) in
       let (y, k, e) = Memᴰ·of-map constantOf (outcome each empty cs) (subst (List·Memᴰ (x .a, x .sub, x .v)) same among) in
       go y k e (eqb-true (x .sub) 1 stored) (y .value) refl
     where

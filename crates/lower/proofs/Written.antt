@@ -28,10 +28,11 @@ use Rattle.types.proofs.Adds.{finished-adds}
 use Rattle.types.proofs.Start.{start-sound}
 use Rattle.types.proofs.Passing.{writes-then, writes-none, writes-after}
 use Rattle.types.proofs.Resolving.{keeps-alias}
+use Rattle.bodies.specs.Constant.{constantsIn}
 use Rattle.bodies.proofs.Constant.{keeps-constants, writes-constants, marked, marked-are-counted}
 use Rattle.bodies.proofs.Bodies.{keeps-bodies}
 use Rattle.lower.specs.LowerBook.{lowerRecords}
-use Rattle.lower.specs.Written.{NoStepBeyond, WrittenWithin, constantsIn, constantOf, ReachedAreWritten, StoredAreCounted}
+use Rattle.lower.specs.Written.{NoStepBeyond, WrittenWithin, ReachedAreWritten, StoredAreCounted}
 
 -- of all that is done for a book. Where W is given, its records, the values of its constants and the names of its declarations are within
 -- their widths, and so are the numbers of results.
@@ -56,7 +57,7 @@ no-step-beyond book before rest d e =
     (subst (All (Fine ⊥ ⊥)) e (all-fine ⊥ book (λ w. absurd w) (λ m l w. absurd w)))
 
 pub reached-are-written : ReachedAreWritten
-unfolding lowerRecords constantsIn constantOf
+unfolding lowerRecords constantsIn
 reached-are-written book =
     (writes-then
     (writes-after (keeps-each _ (keeps-alias book (λ w. absurd w)) (plainAliases book)) (λ x. writes-constants book (settled book) (settled-named book)))
@@ -77,7 +78,6 @@ marked-in (r ∷ rs) = go (isKind 41 r) (eqb (r .sub) 1) refl refl (marked-in rs
     go true true p q e = rw (p, q) (ap suc e)
 
 pub stored-are-counted : StoredAreCounted
-unfolding constantOf
 stored-are-counted book = marked-in _ ∙ ap marked (reached-are-written book) ∙ marked-are-counted (settled book)
 
 -- the results and the diagnostics among events

@@ -16,9 +16,9 @@ use Rattle.constants.specs.Order.{Constant, each}
 use Rattle.constants.specs.Declared.{constants, settled}
 use Rattle.constants.specs.Theory.{Stores}
 use Rattle.types.specs.Step.{isStored}
+use Rattle.bodies.specs.Constant.{constantsIn, constantOf}
 use Rattle.lower.specs.LowerBook.{accepted, lowerBook}
 use Rattle.lower.specs.Laws.{firstRecords}
-use Rattle.lower.specs.Written.{constantsIn, constantOf}
 
 -- the 41s among the results counted are those of the reached constants, in their order
 abbrev pub ReachedAreTold : Type 0

@@ -2,24 +2,20 @@
 -- Assumes nothing.
 use Prim.Native.Nat.{ℕ, _≤_}
 use mathlib.Core.List.{List, _∷_, _++_, map}
-use mathlib.Core.Option.{some, none}
+use mathlib.Core.Option.{none}
 use mathlib.Core.Path.{_≡_}
 use lib.ListN.{length}
-use Rattle.record.specs.declared.Record.{Record}
 use Rattle.record.specs.Bytes.{AreBytes}
 use Rattle.record.specs.Layout.{Within}
-use Rattle.arith.specs.Word.{word}
 use Rattle.book.specs.Lists.{All, keep}
-use Rattle.book.specs.Faults.{isKind}
 use Rattle.book.specs.Refusal.{firstRefusal}
 use Rattle.book.specs.Outline.{Book, read}
-use Rattle.constants.specs.Order.{Settled}
 use Rattle.constants.specs.Declared.{settled}
 use Rattle.types.specs.Lowering.{Limits, State, start, finished, run}
 use Rattle.types.specs.Events.{Event, resolves, events, written}
 use Rattle.types.specs.Resolved.{Names}
 use Rattle.types.specs.Step.{isStored}
-use Rattle.bodies.specs.Constant.{storedCount}
+use Rattle.bodies.specs.Constant.{constantsIn, constantOf, storedCount}
 use Rattle.lower.specs.LowerBook.{lowerRecords}
 
 -- "resolving deeper than 64": the step at which 9 is given is the 65th, and no lowering goes beyond it
@@ -37,14 +33,6 @@ WrittenWithin =
     most .results ≤ 2048 →
     run most (lowerRecords (settled (read book)) (read book)) start ≡ finished a s →
     All Within (s .results) × All Within (s .diagnostics)
-
--- the 41s among some records, each as a, sub and v
-unfoldable pub constantsIn : List Record → List (ℕ × ℕ × ℕ)
-constantsIn rs = map (λ r. (r .a, r .sub, r .v)) (keep (isKind 41) rs)
-
--- "41 reached constant (sub 1 stored, a, b type, v value or 0)"
-unfoldable pub constantOf : Settled → ℕ × ℕ × ℕ
-constantOf x = elim (x .value) [ some z ↦ (x .constant .name, 1, word z) | none ↦ (x .constant .name, 0, 0) ]
 
 -- the 41s that are written are those of the reached constants, in their order
 abbrev pub ReachedAreWritten : Type 0
