@@ -3,3 +3,4 @@ pub mod Known
 pub mod Slips
 pub mod Edges
 pub mod Refused
+pub mod Demand3
