@@ -1,4 +1,4 @@
--- Wrong lowerings fail demand 3, by K1; and books that meet what it asks, by computing what is read from their bytes.
+-- Wrong lowerings fail demand 3, by K1 and K6; and books that meet what it asks, by computing what is read from their bytes.
 -- Assumes nothing.
 use Prim.Native.Nat.{ℕ}
 use mathlib.Core.Bool.{Bool, true, false, cond, _&&_, true≢false, false≢true}
@@ -6,6 +6,7 @@ use mathlib.Core.List.{List, [], _∷_, List·Memᴰ, List·Memᴰ·head, List·
 use mathlib.Core.Logic.{_⊎_, inl, inr, ⊎-elim}
 use mathlib.Core.Option.{some, none, Option·none-ne-some}
 use mathlib.Core.Path.{_≡_, refl, sym, subst}
+use native.Mathlib.Omega.{arith}
 use borrow.Author.Tests.{leb-false, eqb-true, eq-eqb}
 use lib.Dec.{leb, eqb}
 use lib.IntN.{ℤ, pos}
@@ -18,7 +19,7 @@ use Rattle.book.proofs.Lists.{all-at}
 use Rattle.book.specs.Outline.{read}
 use Rattle.constants.specs.Expr.{int, add, mul, literal, reference, operation}
 use Rattle.constants.specs.Eval.{Table, empty}
-use Rattle.constants.specs.Order.{Constant, each, has, declares, Reached, reached}
+use Rattle.constants.specs.Order.{Constant, each, has, declares, admits, Reached, reached}
 use Rattle.constants.specs.Stored.{Stored, stored}
 use Rattle.constants.specs.Leads.{LiesOnRing, LeadsIntoRing, names, further}
 use Rattle.constants.specs.Declared.{constants}
@@ -27,10 +28,12 @@ use Rattle.types.specs.Step.{isStored}
 use Rattle.lower.specs.LowerBook.{Lowered, lowerBook}
 use Rattle.lower.specs.Laws.{IsAccepted, firstRecords}
 use Rattle.lower.specs.Demand3.{AnyLowering, Stands, StoredFor, DeclaresAllOf, AddsNoneTo, OfEach, OfBoth, Demand3}
+use Rattle.runs.specs.Books.{rec}
 use Rattle.runs.specs.Compute.{computed}
 use Rattle.runs.specs.Known.{N1, N2, N3}
-use Rattle.runs.specs.Demand3.{lowerChanged, storesNothing, settlesFirst, StoringNothingFails, SettlingTheFirstFails}
-use Rattle.runs.specs.Demand3.{first, changed, reordered, ring, lowered, elsewhere, Asked, Declares}
+use Rattle.runs.specs.Demand3.{lowerWith, storesNothing, settlesFirst, storesSquares}
+use Rattle.runs.specs.Demand3.{StoringNothingFails, SettlingTheFirstFails, StoringSquaresFails}
+use Rattle.runs.specs.Demand3.{first, square, changed, reordered, ring, lowered, elsewhere, Asked, Declares}
 use Rattle.runs.specs.Demand3.{KeptInstance, SameInstance, RingInstance, Instances}
 use Rattle.runs.proofs.Known.{_&_}
 
@@ -78,6 +81,10 @@ changed-bytes = bytes-are changed refl
 reordered-bytes : AreBytes reordered
 unfolding computed
 reordered-bytes = bytes-are reordered refl
+
+square-bytes : AreBytes square
+unfolding computed
+square-bytes = bytes-are square refl
 
 ring-bytes : AreBytes ring
 unfolding computed
@@ -174,7 +181,7 @@ fails lower results diagnostics answer none-stores demand =
     not-standing (lower first results diagnostics) answer none-stores 42 (said .exactly N2 42 .1 (pos 42, refl, first-stored))
 
 pub storing-nothing-fails : StoringNothingFails
-unfolding computed lowerChanged firstRecords
+unfolding computed lowerWith firstRecords
 storing-nothing-fails =
     fails
     storesNothing
@@ -184,7 +191,7 @@ storing-nothing-fails =
     refl
 
 pub settling-the-first-fails : SettlingTheFirstFails
-unfolding computed lowerChanged firstRecords
+unfolding computed lowerWith firstRecords
 settling-the-first-fails =
     fails
     settlesFirst
@@ -192,6 +199,53 @@ settling-the-first-fails =
     (replicate 24 7)
     (record { results = 2; diagnostics = 0; constants = 1; reply = refl })
     refl
+
+-- K6's constants: N2 is not stored, because its expression names N1 twice
+abbrev base : Constant
+base = record { place = 2; name = N1; expr = literal int 3 }
+
+abbrev squared : Constant
+squared = record { place = 7; name = N2; expr = operation mul (reference N1) (reference N1) }
+
+abbrev square-list : List Constant
+square-list = base ∷ squared ∷ []
+
+square-constants : constants (read square) ≡ square-list
+unfolding computed
+square-constants = refl
+
+not-reached : (c : Constant) → c .name ≡ N2 → Reached each square-list c → ⊥
+unfolding computed
+not-reached c name (reached member admitted rest) =
+    of-all
+    (λ d. d .name ≡ N2 → admits each square-list d ≡ true → ⊥)
+    square-list
+    ((λ e a. omega arith) & (λ e a. false≢true a) & tt)
+    c
+    member
+    name
+    admitted
+
+not-stored : (z : ℤ) → Stored each square-list N2 z → ⊥
+not-stored z (stored c values name is-reached holds e) = not-reached c name is-reached
+
+-- but it would stand
+square-stands : Stands (storesSquares square (replicate 480 0) (replicate 24 7)) N2 9
+unfolding computed lowerWith firstRecords
+square-stands =
+    record {
+      reply = record { results = 4; diagnostics = 0; constants = 2; reply = refl };
+      constant = rec 41 1 N2 2 0 9 170 8;
+      counted = List·Memᴰ·tail (List·Memᴰ·tail (List·Memᴰ·tail (List·Memᴰ·head refl)));
+      marked = refl;
+      name = refl;
+      value = refl;
+    }
+
+pub storing-squares-fails : StoringSquaresFails
+storing-squares-fails demand =
+    let said = demand .of-each square (replicate 480 0) (replicate 24 7) square-bytes (square-stands .reply) .exactly N2 9 .0 square-stands in
+    not-stored (said .0) (rw square-constants at (said .2))
 
 -- The instances. Both lowerings of each are accepted
 first-accepted : IsAccepted (lowered first)

@@ -11,24 +11,29 @@ use lib.IntN.{pos}
 use lib.ListN.{take, replicate}
 use Rattle.record.specs.Bytes.{AreBytes}
 use Rattle.book.specs.Refusal.{firstRefusal}
-use Rattle.book.specs.Outline.{read}
-use Rattle.constants.specs.Order.{Constant, Settled}
+use Rattle.book.specs.Outline.{Book, read}
+use Rattle.constants.specs.Eval.{empty}
+use Rattle.constants.specs.Order.{Constant, Settled, once, outcome}
 use Rattle.constants.specs.Leads.{LiesOnRing, LeadsIntoRing}
 use Rattle.constants.specs.Declared.{constants, settled}
 use Rattle.lower.specs.LowerBook.{Lowered, lowerRead, lowerBook}
 use Rattle.lower.specs.Laws.{IsAccepted}
 use Rattle.lower.specs.Demand3.{AnyLowering, Stands, StoredFor, DeclaresAllOf, AddsNoneTo, Demand3}
 use Rattle.runs.specs.Books.{bookOf, rec}
-use Rattle.runs.specs.Known.{N1, N2, N3, k1, k7}
+use Rattle.runs.specs.Known.{N1, N2, N3, k1, k6, k7}
 use Rattle.runs.specs.Slips.{N4, N5}
 
 -- Wrong lowerings. As `lowerBook`, but with other constants than those that are settled
-unfoldable pub lowerChanged : (List Settled → List Settled) → AnyLowering
-lowerChanged change book results diagnostics =
+unfoldable pub lowerWith : (Book → List Settled) → AnyLowering
+lowerWith constantsOf book results diagnostics =
     elim (firstRefusal book) [
       | some x ↦ lowerBook book results diagnostics
-      | none ↦ lowerRead (change (settled (read book))) (read book) results diagnostics
+      | none ↦ lowerRead (constantsOf (read book)) (read book) results diagnostics
     ]
+
+-- with those that are settled, changed
+abbrev pub lowerChanged : (List Settled → List Settled) → AnyLowering
+lowerChanged change = lowerWith (λ book. change (settled book))
 
 -- "Storing nothing": each reached constant without a value
 abbrev pub storesNothing : AnyLowering
@@ -38,15 +43,27 @@ storesNothing = lowerChanged (map (λ x. record { constant = x .constant; value 
 abbrev pub settlesFirst : AnyLowering
 settlesFirst = lowerChanged (take 1)
 
+-- "evaluating K6 to 9": a constant is reached though its expression names a declared one twice
+abbrev pub storesSquares : AnyLowering
+storesSquares = lowerWith (λ book. outcome once empty (constants book))
+
 abbrev pub StoringNothingFails : Type 0
 StoringNothingFails = Demand3 storesNothing → ⊥
 
 abbrev pub SettlingTheFirstFails : Type 0
 SettlingTheFirstFails = Demand3 settlesFirst → ⊥
 
+-- storing too much fails it as well
+abbrev pub StoringSquaresFails : Type 0
+StoringSquaresFails = Demand3 storesSquares → ⊥
+
 -- The books. K1: N1 = 6, N2 = N1 × 7
 abbrev pub first : List ℕ
 first = bookOf false (k1 .book)
+
+-- K6: N1 = 3, N2 = N1 × N1
+abbrev pub square : List ℕ
+square = bookOf false (k6 .book)
 
 -- K1 changed: N2 stands before N1, N3 = N2 + N1 is added, and a message with a field; N1 has another type, spans differ, and wildcard imports
 -- exist
