@@ -3,7 +3,7 @@
 use Prim.Native.Nat.{_^_, _-_}
 use mathlib.Core.Option.{some, none}
 use mathlib.Core.Path.{_≡_, refl}
-use lib.IntN.{pos, negsuc, _+ℤ_, _-ℤ_}
+use lib.IntN.{ℤ, pos, negsuc, _+ℤ_, _-ℤ_}
 use Rattle.arith.specs.Checked.{fitting, checkedAdd, checkedSub, checkedMul, checkedDiv}
 use Rattle.arith.specs.Word.{MIN, MAX, asI64}
 

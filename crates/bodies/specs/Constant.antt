@@ -10,7 +10,7 @@ use Rattle.book.specs.Lists.{keep}
 use Rattle.book.specs.Faults.{isKind}
 use Rattle.book.specs.Outline.{Book, _!_}
 use Rattle.constants.specs.Order.{Settled}
-use Rattle.types.specs.Step.{Step, _>>_, give, at, emit, tell, message}
+use Rattle.types.specs.Step.{Step, _>>=_, _>>_, give, at, emit, tell, message}
 use Rattle.types.specs.Resolve.{resolveType}
 
 -- "reached without a value gives message 5", which "takes the expression's span"; "v [..] 2 `ConstRefNotFound` (message 5)"

@@ -45,7 +45,7 @@ module _ {A : Type 0} where
   all-with f [] p q = tt
   all-with f (x ∷ l) p q = (f x (p .0) (q .0), all-with f l (p .1) (q .1))
 
-  none-passes :
+  pub none-passes :
       {P : A → Type 0} (test : A → Bool) → ((x : A) → test x ≡ false → P x) → (l : List A) → any test l ≡ false → All P l
   unfolding any
   none-passes test f [] e = tt

@@ -1,13 +1,13 @@
 -- Wrong lowerings fail demand 3, by K1 and K6; and books that meet what it asks, by computing what is read from their bytes.
 -- Assumes nothing.
 use Prim.Native.Nat.{ℕ}
-use mathlib.Core.Bool.{Bool, true, false, cond, _&&_, true≢false, false≢true}
+use mathlib.Core.Bool.{Bool, true, false, _&&_, true≢false, false≢true}
 use mathlib.Core.List.{List, [], _∷_, List·Memᴰ, List·Memᴰ·head, List·Memᴰ·tail, List·Memᴰ·not-nil, List·Memᴰ·cases-cons}
-use mathlib.Core.Logic.{_⊎_, inl, inr, ⊎-elim}
-use mathlib.Core.Option.{some, none, Option·none-ne-some}
-use mathlib.Core.Path.{_≡_, refl, sym, subst}
+use mathlib.Core.Logic.{inl, inr, ⊎-elim}
+use mathlib.Core.Option.{none}
+use mathlib.Core.Path.{_≡_, refl, sym, _∙_, subst}
 use native.Mathlib.Omega.{arith}
-use borrow.Author.Tests.{leb-false, eqb-true, eq-eqb}
+use borrow.Author.Tests.{leb-false, eq-eqb}
 use lib.Dec.{leb, eqb}
 use lib.IntN.{ℤ, pos}
 use lib.ListN.{replicate}
@@ -16,21 +16,28 @@ use Rattle.record.specs.Bytes.{AreBytes}
 use Rattle.arith.specs.Word.{word}
 use Rattle.book.specs.Lists.{All, any}
 use Rattle.book.proofs.Lists.{all-at}
+use Rattle.book.proofs.Members.{mem-any}
+use Rattle.book.proofs.Trees.{none-passes}
+use Rattle.book.specs.Refusal.{firstRefusal}
 use Rattle.book.specs.Outline.{read}
 use Rattle.constants.specs.Expr.{int, add, mul, literal, reference, operation}
-use Rattle.constants.specs.Eval.{Table, empty}
-use Rattle.constants.specs.Order.{Constant, each, has, declares, admits, Reached, reached}
+use Rattle.constants.specs.Order.{Constant, each, declares, admits, Reached, reached}
 use Rattle.constants.specs.Stored.{Stored, stored}
 use Rattle.constants.specs.Leads.{LiesOnRing, LeadsIntoRing, names, further}
 use Rattle.constants.specs.Declared.{constants}
-use Rattle.constants.specs.SameTrees.{left, right, SameExpression, standsAt, seen, childAt}
+use Rattle.constants.specs.SameTrees.{SameExpression}
+use Rattle.constants.proofs.Distinct.{accepted-is-distinct}
+use Rattle.constants.proofs.SameTrees.{same-expressions-are-equal}
+use Rattle.constants.proofs.Stored.{stores-the-stored}
 use Rattle.types.specs.Step.{isStored}
-use Rattle.lower.specs.LowerBook.{Lowered, lowerBook}
+use Rattle.lower.specs.LowerBook.{Lowered}
 use Rattle.lower.specs.Laws.{IsAccepted, firstRecords}
+use Rattle.lower.proofs.Demand3.{demand-3}
 use Rattle.lower.specs.Demand3.{AnyLowering, Stands, StoredFor, DeclaresAllOf, AddsNoneTo, OfEach, OfBoth, Demand3}
 use Rattle.runs.specs.Books.{rec}
 use Rattle.runs.specs.Compute.{computed}
 use Rattle.runs.specs.Known.{N1, N2, N3}
+use Rattle.runs.specs.Slips.{N4}
 use Rattle.runs.specs.Demand3.{lowerWith, storesNothing, settlesFirst, storesSquares}
 use Rattle.runs.specs.Demand3.{StoringNothingFails, SettlingTheFirstFails, StoringSquaresFails}
 use Rattle.runs.specs.Demand3.{first, square, changed, reordered, ring, lowered, elsewhere, Asked, Declares}
@@ -43,31 +50,12 @@ of-all P [] p x m = absurd (List·Memᴰ·not-nil m)
 of-all P (y ∷ l) p x m =
     ⊎-elim (λ e. subst P (sym e) (p .0)) (λ t. of-all P l (p .1) x t) (List·Memᴰ·cases-cons m)
 
--- where no element passes, each fails
-all-fail : {A : Type 0} (test : A → Bool) (l : List A) → any test l ≡ false → All (λ x. test x ≡ false) l
-unfolding any
-all-fail test [] e = tt
-all-fail test (y ∷ l) e = go (test y) refl e (all-fail test l)
-  where
-    go :
-        (b : Bool) →
-        test y ≡ b →
-        elim b [ true ↦ true | false ↦ any test l ] ≡ false →
-        (any test l ≡ false → All (λ x. test x ≡ false) l) →
-        All (λ x. test x ≡ false) (y ∷ l)
-    go true t e rest = (cc, rest (cc))
-    go false t e rest = (t, rest e)
-
-none-passes :
-    {A : Type 0} (test : A → Bool) (l : List A) → any test l ≡ false → (x : A) → List·Memᴰ x l → test x ≡ false
-none-passes test l e = of-all (λ x. test x ≡ false) l (all-fail test l e)
-
 -- numbers of which none is past 255 are bytes
 bytes-are : (s : List ℕ) → any (λ b. leb 256 b) s ≡ false → AreBytes s
 bytes-are s e =
     record {
       byte = λ i.
-          leb-false 256 _ (all-at (λ b. leb 256 b ≡ false) s i 0 (all-fail (λ b. leb 256 b) s e) refl);
+          leb-false 256 _ (all-at (λ b. leb 256 b ≡ false) s i 0 (none-passes _ (λ b h. h) s e) refl);
     }
 
 first-bytes : AreBytes first
@@ -104,47 +92,12 @@ first-constants : constants (read first) ≡ first-list
 unfolding computed
 first-constants = refl
 
--- N2 is stored as 42: N1 is reached and stored as 6, so N2 is reached, and N1 × 7 is 42 over N1's value
-one-reached : Reached each first-list one
-unfolding computed
-one-reached = reached (List·Memᴰ·head refl) refl (λ d m e. absurd (false≢true e))
-
-two-reached : Reached each first-list two
-unfolding computed
-two-reached =
-    reached
-    (List·Memᴰ·tail (List·Memᴰ·head refl))
-    refl
-    (of-all
-    (λ d. has (d .name) (N1 ∷ []) ≡ true → Reached each first-list d)
-    first-list
-    ((λ e. one-reached) & (λ e. absurd (false≢true e)) & tt))
-
-one-stored : Stored each first-list N1 (pos 6)
-unfolding computed
-one-stored = stored one empty refl one-reached (λ m y e. absurd (Option·none-ne-some y e)) refl
-
--- N1 has its value, and no other name has one
-abbrev six : Table
-six m = cond (eqb m N1) (some (pos 6)) none
-
-six-stored : (m : ℕ) (y : ℤ) → six m ≡ some y → Stored each first-list m y
-six-stored m y = go (eqb m N1) refl
-  where
-    go : (b : Bool) → eqb m N1 ≡ b → cond b (some (pos 6)) none ≡ some y → Stored each first-list m y
-    go true t e =
-        let name : N1 ≡ m = cc (eqb-true m N1 t) in
-        let value : pos 6 ≡ y = cc in
-        subst (λ (n : ℕ). Stored each first-list n y) name (subst (λ (z : ℤ). Stored each first-list N1 z) value one-stored)
-    go false t e = absurd (Option·none-ne-some y e)
-
+-- N2 is settled as 42, so stored as that
 first-stored : StoredFor first N2 (pos 42)
 unfolding computed
 first-stored =
-    subst
-    (λ (l : List Constant). Stored each l N2 (pos 42))
-    (sym first-constants)
-    (stored two six refl two-reached six-stored refl)
+    stores-the-stored each (constants (read first)) (accepted-is-distinct first refl) N2 (pos 42) .0
+    (two, refl, List·Memᴰ·tail (List·Memᴰ·head refl))
 
 -- a record is marked stored and named N2
 abbrev stores-two : Record → Bool
@@ -159,15 +112,8 @@ not-standing :
     ⊥
 not-standing x answer none-stores v s =
     let counts : s .reply .results ≡ answer .results = cc (s .reply .reply, answer .reply) in
-    go
-    (isStored (s .constant))
-    (eqb (s .constant .a) N2)
-    (s .marked)
-    (eq-eqb (s .constant .a) N2 (s .name))
-    (none-passes stores-two (firstRecords (answer .results) (x .results)) none-stores (s .constant) (rw counts at (s .counted)))
-  where
-    go : (p q : Bool) → p ≡ true → q ≡ true → (p && q) ≡ false → ⊥
-    go p q x y z = true≢false (rw (x, y) at z)
+    let so : stores-two (s .constant) ≡ true = rw (s .marked) (eq-eqb (s .constant .a) N2 (s .name)) in
+    true≢false (sym (mem-any stores-two (rw counts at (s .counted)) so) ∙ none-stores)
 
 -- but demand 3 says that it does, of a lowering that accepts K1
 fails :
@@ -260,31 +206,27 @@ reordered-accepted : IsAccepted (elsewhere reordered)
 unfolding computed
 reordered-accepted = record { results = 4; diagnostics = 0; constants = 2; reply = refl }
 
-ring-accepted : IsAccepted (lowered ring)
-unfolding computed
-ring-accepted = record { results = 0; diagnostics = 0; constants = 0; reply = refl }
-
 -- a book that declares N1 and N2 with K1's expressions
 declares-first :
-    (other : List ℕ) (a b : Constant) →
-    List·Memᴰ a (constants (read other)) →
-    List·Memᴰ b (constants (read other)) →
-    a .name ≡ N1 →
-    b .name ≡ N2 →
-    SameExpression (read first) one (read other) a →
-    SameExpression (read first) two (read other) b →
+    (other : List ℕ) → firstRefusal other ≡ none → (a b : Constant) →
+    List·Memᴰ a (constants (read other)) → List·Memᴰ b (constants (read other)) →
+    (a .name ≡ N1) × (a .expr ≡ one .expr) → (b .name ≡ N2) × (b .expr ≡ two .expr) →
     DeclaresAllOf first other
-declares-first other a b at-a at-b name-a name-b same-a same-b c m =
+unfolding computed
+declares-first other unrefused a b at-a at-b is-one is-two c m =
     of-all
-    (λ c.
-    (d : Constant)
-    × List·Memᴰ d (constants (read other))
-    × (d .name ≡ c .name)
-    × SameExpression (read first) c (read other) d)
+    (λ c. (d : Constant) × List·Memᴰ d (constants (read other)) × (d .name ≡ c .name) × SameExpression (read first) c (read other) d)
     first-list
-    ((a, at-a, name-a, same-a) & (b, at-b, name-b, same-b) & tt)
+    ((a, at-a, is-one .0, same one a (List·Memᴰ·head refl) at-a (is-one .1))
+    & (b, at-b, is-two .0, same two b (List·Memᴰ·tail (List·Memᴰ·head refl)) at-b (is-two .1))
+    & tt)
     c
-    (rw first-constants at m)
+    m
+  where
+    same :
+        (c d : Constant) → List·Memᴰ c first-list → List·Memᴰ d (constants (read other)) → d .expr ≡ c .expr →
+        SameExpression (read first) c (read other) d
+    same c d at-c at-d e = same-expressions-are-equal first other refl unrefused c d at-c at-d .1 (sym e)
 
 -- K1 changed
 abbrev changed-one : Constant
@@ -300,31 +242,11 @@ changed-constants : constants (read changed) ≡ changed-two ∷ changed-one ∷
 unfolding computed
 changed-constants = refl
 
-changed-same-one : SameExpression (read first) one (read changed) changed-one
-unfolding computed standsAt seen childAt
-changed-same-one [] = refl
-changed-same-one (side ∷ way) = refl
-
-changed-same-two : SameExpression (read first) two (read changed) changed-two
-unfolding computed standsAt seen childAt
-changed-same-two [] = refl
-changed-same-two (left ∷ []) = refl
-changed-same-two (left ∷ side ∷ way) = refl
-changed-same-two (right ∷ []) = refl
-changed-same-two (right ∷ side ∷ way) = refl
-
 changed-declares : DeclaresAllOf first changed
+unfolding computed
 changed-declares =
-    declares-first
-    changed
-    changed-one
-    changed-two
-    (rw changed-constants (List·Memᴰ·tail (List·Memᴰ·head refl)))
-    (rw changed-constants (List·Memᴰ·head refl))
-    refl
-    refl
-    changed-same-one
-    changed-same-two
+    declares-first changed refl changed-one changed-two
+    (List·Memᴰ·tail (List·Memᴰ·head refl)) (List·Memᴰ·head refl) (refl, refl) (refl, refl)
 
 -- K1 reordered
 abbrev reordered-one : Constant
@@ -337,31 +259,11 @@ reordered-constants : constants (read reordered) ≡ reordered-two ∷ reordered
 unfolding computed
 reordered-constants = refl
 
-reordered-same-one : SameExpression (read first) one (read reordered) reordered-one
-unfolding computed standsAt seen childAt
-reordered-same-one [] = refl
-reordered-same-one (side ∷ way) = refl
-
-reordered-same-two : SameExpression (read first) two (read reordered) reordered-two
-unfolding computed standsAt seen childAt
-reordered-same-two [] = refl
-reordered-same-two (left ∷ []) = refl
-reordered-same-two (left ∷ side ∷ way) = refl
-reordered-same-two (right ∷ []) = refl
-reordered-same-two (right ∷ side ∷ way) = refl
-
 reordered-declares : DeclaresAllOf first reordered
+unfolding computed
 reordered-declares =
-    declares-first
-    reordered
-    reordered-one
-    reordered-two
-    (rw reordered-constants (List·Memᴰ·tail (List·Memᴰ·head refl)))
-    (rw reordered-constants (List·Memᴰ·head refl))
-    refl
-    refl
-    reordered-same-one
-    reordered-same-two
+    declares-first reordered refl reordered-one reordered-two
+    (List·Memᴰ·tail (List·Memᴰ·head refl)) (List·Memᴰ·head refl) (refl, refl) (refl, refl)
 
 reordered-adds-none : AddsNoneTo first reordered
 unfolding computed
@@ -383,8 +285,11 @@ ring-two = record { place = 5; name = N2; expr = reference N1 }
 abbrev ring-three : Constant
 ring-three = record { place = 8; name = N3; expr = reference N1 }
 
+abbrev ring-four : Constant
+ring-four = record { place = 11; name = N4; expr = literal int 5 }
+
 abbrev ring-list : List Constant
-ring-list = ring-one ∷ ring-two ∷ ring-three ∷ []
+ring-list = ring-one ∷ ring-two ∷ ring-three ∷ ring-four ∷ []
 
 ring-constants : constants (read ring) ≡ ring-list
 unfolding computed
@@ -418,6 +323,19 @@ into-ring =
       so = rw ring-constants leads-into-ring;
     }
 
+-- N4 is beside it, and stored
+beside-ring : Stands (lowered ring) N4 5
+unfolding computed firstRecords
+beside-ring =
+    record {
+      reply = record { results = 2; diagnostics = 0; constants = 1; reply = refl };
+      constant = rec 41 1 N4 0 0 5 210 12;
+      counted = List·Memᴰ·tail (List·Memᴰ·head refl);
+      marked = refl;
+      name = refl;
+      value = refl;
+    }
+
 -- what demand 3 asks, of K1 and each of the other two
 first-and-changed : Asked first changed
 first-and-changed =
@@ -440,57 +358,57 @@ first-and-reordered =
     }
 
 -- and what it says of them
-module _ (demand : Demand3 lowerBook) where
-  of-two : {one other : List ℕ} → Asked one other → OfBoth one other (lowered one) (elsewhere other)
-  of-two {one} {other} a =
-      demand
-      .of-both
-      one
-      _
-      _
-      other
-      _
-      _
-      (a .one-bytes)
-      (a .other-bytes)
-      (a .one-accepted)
-      (a .other-accepted)
-      (a .declares-all)
+of-two : {one other : List ℕ} → Asked one other → OfBoth one other (lowered one) (elsewhere other)
+of-two {one} {other} a =
+    demand-3
+    .of-both
+    one
+    _
+    _
+    other
+    _
+    _
+    (a .one-bytes)
+    (a .other-bytes)
+    (a .one-accepted)
+    (a .other-accepted)
+    (a .declares-all)
 
-  of-ring : OfEach ring (lowered ring)
-  of-ring = demand .of-each ring _ _ ring-bytes ring-accepted
+of-ring : OfEach ring (lowered ring)
+of-ring = demand-3 .of-each ring _ _ ring-bytes (beside-ring .reply)
 
-  kept-instance : KeptInstance
-  unfolding word
-  kept-instance =
-      let said = of-two first-and-changed .kept N2 (pos 42) first-stored in
-      record {
-        asked = first-and-changed;
-        stored = first-stored;
-        kept = said .0;
-        stands = said .1;
-        stands-elsewhere = said .2;
-      }
+kept-instance : KeptInstance
+unfolding word
+kept-instance =
+    let said = of-two first-and-changed .kept N2 (pos 42) first-stored in
+    record {
+      asked = first-and-changed;
+      stored = first-stored;
+      kept = said .0;
+      stands = said .1;
+      stands-elsewhere = said .2;
+    }
 
-  same-instance : SameInstance
-  same-instance =
-      record {
-        asked = first-and-reordered;
-        none-added = reordered-adds-none;
-        same = of-two first-and-reordered .same reordered-adds-none;
-      }
+same-instance : SameInstance
+same-instance =
+    record {
+      asked = first-and-reordered;
+      none-added = reordered-adds-none;
+      same = of-two first-and-reordered .same reordered-adds-none;
+    }
 
-  ring-instance : RingInstance
-  unfolding on-ring into-ring
-  ring-instance =
-      record {
-        bytes = ring-bytes;
-        is-accepted = ring-accepted;
-        on-ring = on-ring;
-        into-ring = into-ring;
-        not-on-ring = of-ring .no-ring ring-one (on-ring .member) (inl (on-ring .so));
-        not-into-ring = of-ring .no-ring ring-three (into-ring .member) (inr (into-ring .so));
-      }
+ring-instance : RingInstance
+unfolding on-ring into-ring
+ring-instance =
+    record {
+      bytes = ring-bytes;
+      is-accepted = (beside-ring .reply);
+      on-ring = on-ring;
+      into-ring = into-ring;
+      beside = beside-ring;
+      not-on-ring = of-ring .no-ring ring-one (on-ring .member) (inl (on-ring .so));
+      not-into-ring = of-ring .no-ring ring-three (into-ring .member) (inr (into-ring .so));
+    }
 
-  pub instances : Instances
-  instances = record { kept = kept-instance; same = same-instance; rings = ring-instance }
+pub instances : Instances
+instances = record { kept = kept-instance; same = same-instance; rings = ring-instance }

@@ -104,7 +104,7 @@ reordered =
     ∷ rec 24 0 N1 6 5 0 270 8  -- 7: constant N1: type 6, expression 5
     ∷ [])
 
--- K7 with one constant more: N1 = N2, N2 = N1, N3 = N1
+-- K7 with two constants more: N1 = N2, N2 = N1, N3 = N1, N4 = 5
 abbrev pub ring : List ℕ
 ring =
     bookOf
@@ -113,6 +113,9 @@ ring =
     ++ (rec 11 0 N1 0 0 0 160 7  -- 6: reference to N1
     ∷ rec 1 1 0 0 0 0 170 8  -- 7: u8
     ∷ rec 24 0 N3 7 6 0 180 9  -- 8: constant N3: type 7, expression 6
+    ∷ rec 10 0 0 0 0 5 190 10  -- 9: Int 5
+    ∷ rec 1 1 0 0 0 0 200 11  -- 10: u8
+    ∷ rec 24 0 N4 10 9 0 210 12  -- 11: constant N4: type 10, expression 9
     ∷ []))
 
 -- Their lowerings: the second of two is lent other slices than the first, longer ones that hold other bytes
@@ -159,6 +162,7 @@ pub record RingInstance : Type 0 where
   pub is-accepted : IsAccepted (lowered ring)
   pub on-ring : Declares ring N1 (LiesOnRing (constants (read ring)))
   pub into-ring : Declares ring N3 (LeadsIntoRing (constants (read ring)))
+  pub beside : Stands (lowered ring) N4 5
   -- so demand 3 says
   pub not-on-ring : (v : ℕ) → Stands (lowered ring) N1 v → ⊥
   pub not-into-ring : (v : ℕ) → Stands (lowered ring) N3 v → ⊥

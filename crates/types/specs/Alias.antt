@@ -4,7 +4,7 @@ use Prim.Native.Nat.{ℕ}
 use Rattle.record.specs.declared.Record.{Record}
 use Rattle.book.specs.Outline.{Book, _!_}
 use Rattle.types.specs.Resolved.{withAlias}
-use Rattle.types.specs.Step.{Step, at, emit, change}
+use Rattle.types.specs.Step.{Step, _>>=_, _>>_, at, emit, change}
 use Rattle.types.specs.Resolve.{resolveType}
 
 -- "40 plain alias (a, b type)"; 40 keeps the book's span. The alias is there for names from here on.
