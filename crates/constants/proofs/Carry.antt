@@ -10,6 +10,7 @@ use Rattle.constants.specs.Eval.{Table, evalConstExpr}
 use Rattle.constants.specs.Order.{Constant, Way, each, once, Reached, reached, has, declares, declaredRefs, repeats, admits}
 use Rattle.constants.specs.Theory.{Distinct, orElse, IsFinal}
 use Rattle.constants.proofs.Tests.{mem-has, declares-mem, mem-declares}
+use Rattle.constants.proofs.Order.{reached-admitted}
 use Rattle.constants.proofs.Eval.{eval-agree}
 
 -- two tests that agree on the members of a list keep the same
@@ -36,9 +37,6 @@ admits-agree once cs ds c d e h a = refl
 
 pub reached-declared : {w : Way} {cs : List Constant} {c : Constant} → Reached w cs c → List·Memᴰ c cs
 reached-declared (reached m a named) = m
-
-reached-admitted : {w : Way} {cs : List Constant} {c : Constant} → Reached w cs c → admits w cs c ≡ true
-reached-admitted (reached m a named) = a
 
 pub reached-names :
     {w : Way} {cs : List Constant} {c : Constant} → Reached w cs c →

@@ -13,7 +13,7 @@ use Rattle.constants.specs.Theory.{Distinct, InTurn, after, orElse, IsFi
 use Rattle.constants.proofs.Tests.{mem-has, declares-mem, mem-declares, is-ready}
 use Rattle.constants.proofs.Eval.{eval-agree, store-own, store-other}
 use Rattle.constants.proofs.Carry.{carry}
-use Rattle.constants.proofs.Order.{has-later, taken-declared, order-is-in-turn, in-turn-takes-reached}
+use Rattle.constants.proofs.Order.{taken-declared, order-is-in-turn, in-turn-takes-reached, order-takes-reached, fresh}
 
 -- a name that is not taken keeps what it had
 pub stable : (taken : List Constant) (t : Table) (n : ℕ) → ((c : Constant) → List·Memᴰ c taken → c .name ≡ n → ⊥) → after t taken n ≡ t n
@@ -24,17 +24,6 @@ stable (c ∷ taken) t n h =
     ∙ store-other t (c .name) (evalConstExpr t (c .expr)) n (h c (List·Memᴰ·head refl))
 
 module _ (w : Way) (cs : List Constant) where
-  -- what is taken was not done
-  fresh :
-      (taken : List Constant) (done : List ℕ) → InTurn w cs done taken → (c : Constant) → List·Memᴰ c taken →
-      has (c .name) done ≡ true → ⊥
-  fresh [] done r x m h = List·Memᴰ·not-nil m
-  fresh (c ∷ taken) done r x m h =
-      ⊎-elim
-      (λ q. true≢false (sym h ∙ ap (λ (d : Constant). has (d .name) done) q ∙ is-ready w cs done c (r .1) .fresh))
-      (λ k. fresh taken (c .name ∷ done) (r .2) x k (has-later (x .name) (c .name) done h))
-      (List·Memᴰ·cases-cons m)
-
   -- the value of the next one is that over the table behind all
   next-value :
       (c : Constant) (taken : List Constant) (done : List ℕ) (t : Table) → InTurn w cs done (c ∷ taken) →
@@ -42,7 +31,7 @@ module _ (w : Way) (cs : List Constant) where
   next-value c taken done t r =
       eval-agree (after t (c ∷ taken)) t (c .expr)
       (λ n m. stable (c ∷ taken) t n
-      (λ d k e. fresh (c ∷ taken) done r d k
+      (λ d k e. fresh w cs (c ∷ taken) done r d k
       (subst (λ (j : ℕ). has j done ≡ true) (sym e)
       (is-ready w cs done c (r .1) .behind n (mem-has m) (mem-declares n (taken-declared w cs (c ∷ taken) done r d k) e)))))
 
@@ -94,7 +83,7 @@ module _ (w : Way) (cs : List Constant) where
       (List·Memᴰ·cases-cons m)
     where
       later : (d : Constant) → List·Memᴰ d taken → d .name ≡ c .name → ⊥
-      later d k e = fresh taken (c .name ∷ done) (r .2) d k (mem-has (List·Memᴰ·head e))
+      later d k e = fresh w cs taken (c .name ∷ done) (r .2) d k (mem-has (List·Memᴰ·head e))
 
       first : after t (c ∷ taken) (c .name) ≡ orElse (evalConstExpr (after t (c ∷ taken)) (c .expr)) (t (c .name))
       first =
@@ -111,20 +100,17 @@ any-order-is-final w t cs distinct taken r = record {
 pub final-is-one : FinalIsOne
 final-is-one w t cs distinct one other f g n = go (declares (order w cs) n) refl
   where
-    ordered : (c : Constant) → List·Memᴰ c (order w cs) ↔ Reached w cs c
-    ordered = in-turn-takes-reached w cs distinct (order w cs) (order-is-in-turn w cs)
-
     go : (b : Bool) → declares (order w cs) n ≡ b → one n ≡ other n
     go true e =
         let x = declares-mem (order w cs) n e in
         let y =
         carry w t cs cs distinct one other f g (λ c. Unit) (λ c d p m h. tt) (λ c p m. (c, m, refl, refl)) (λ c p m h q. q)
-        (ordered (x .0) .0 (x .1)) tt in
+        (order-takes-reached w cs distinct (x .0) .0 (x .1)) tt in
         sym (ap one (x .2)) ∙ y .has-value ∙ ap other (x .2)
     go false e = f .other n no ∙ sym (g .other n no)
       where
         no : (c : Constant) → Reached w cs c → c .name ≡ n → ⊥
-        no c r q = true≢false (sym (mem-declares n (ordered c .1 r) q) ∙ e)
+        no c r q = true≢false (sym (mem-declares n (order-takes-reached w cs distinct c .1 r) q) ∙ e)
 
 pub settled-over-final : SettledOverFinal
 settled-over-final w t cs distinct taken r final f x = (

@@ -2,7 +2,8 @@
 -- Assumes nothing.
 use Prim.Native.Nat.{ℕ, zero, suc, _≤_, _<_}
 use mathlib.Core.Bool.{Bool, true, false, cond, not, true≢false, false≢true}
-use mathlib.Core.List.{List, [], _∷_, List·Memᴰ, List·Memᴰ·head, List·Memᴰ·tail, List·Memᴰ·cases-cons, List·Memᴰ·not-nil, Memᴰ·cast}
+use mathlib.Core.List.{List, [], _∷_, List·Memᴰ, List·Memᴰ·head, List·Memᴰ·tail, List·Memᴰ·cases-cons, List·Memᴰ·not-nil}
+use mathlib.Core.List.{_++_, append-nil, Memᴰ·cast, Memᴰ·append-left}
 use mathlib.Core.Logic.{_⊎_, inl, inr, ⊎-elim}
 use mathlib.Core.Option.{Option, some, none}
 use mathlib.Core.Path.{_≡_, refl, sym, _∙_, ap, subst}
@@ -13,8 +14,8 @@ use borrow.Author.Tests.{eqb-true, eq-eqb}
 use Rattle.book.specs.Lists.{any, find, keep}
 use Rattle.book.proofs.Lists.{keep-length}
 use Rattle.constants.specs.Expr.{refs}
-use Rattle.constants.specs.Order.{Constant, Way, Reached, reached, has, ready, orderFrom, order}
-use Rattle.constants.specs.Theory.{Distinct, InTurn, OrderIsInTurn, InTurnTakesReached}
+use Rattle.constants.specs.Order.{Constant, Way, Reached, reached, has, admits, ready, orderFrom, order}
+use Rattle.constants.specs.Theory.{Distinct, InTurn, doneBy, OrderIsInTurn, InTurnTakesReached, ReadyIsReached, OrderTakesReached, ReachedIsLeast, Once, InTurnTakesOnce}
 use Rattle.constants.proofs.Tests.{has-mem, mem-has, declares-mem, mem-declares, IsReady, is-ready, ready-if}
 
 -- fewer pass a test that more fail
@@ -106,13 +107,8 @@ pub order-is-in-turn : OrderIsInTurn
 unfolding order
 order-is-in-turn w cs = from-in-turn w cs (length cs) [] (keep-length _ cs)
 
--- Any order. What is done when all have been taken:
-abbrev pub doneAfter : List Constant → List ℕ → List ℕ
-doneAfter [] done = done
-doneAfter (c ∷ taken) done = doneAfter taken (c .name ∷ done)
-
--- a name that is put before others, and the names that are done
-pub has-first : (n m : ℕ) (ns : List ℕ) → has n (m ∷ ns) ≡ true → (m ≡ n) ⊎ (has n ns ≡ true)
+-- Any order. A name that is put before others, and the names that are done
+has-first : (n m : ℕ) (ns : List ℕ) → has n (m ∷ ns) ≡ true → (m ≡ n) ⊎ (has n ns ≡ true)
 unfolding any
 has-first n m ns e = go (eqb m n) refl e
   where
@@ -120,20 +116,20 @@ has-first n m ns e = go (eqb m n) refl e
     go true q e = inl (eqb-true m n q)
     go false q e = inr e
 
-pub has-later : (n m : ℕ) (ns : List ℕ) → has n ns ≡ true → has n (m ∷ ns) ≡ true
+has-later : (n m : ℕ) (ns : List ℕ) → has n ns ≡ true → has n (m ∷ ns) ≡ true
 has-later n m ns h = mem-has (List·Memᴰ·tail (has-mem n ns h))
 
-pub stays-done : (taken : List Constant) (done : List ℕ) (n : ℕ) → has n done ≡ true → has n (doneAfter taken done) ≡ true
+stays-done : (taken : List Constant) (done : List ℕ) (n : ℕ) → has n done ≡ true → has n (doneBy taken done) ≡ true
 stays-done [] done n h = h
 stays-done (c ∷ taken) done n h = stays-done taken (c .name ∷ done) n (has-later n (c .name) done h)
 
-pub taken-done : {c : Constant} {taken : List Constant} (done : List ℕ) → List·Memᴰ c taken → has (c .name) (doneAfter taken done) ≡ true
+taken-done : {c : Constant} {taken : List Constant} (done : List ℕ) → List·Memᴰ c taken → has (c .name) (doneBy taken done) ≡ true
 taken-done {c} done (List·Memᴰ·head {x = d} {xs = taken} e) =
     stays-done taken (d .name ∷ done) (c .name) (mem-has (List·Memᴰ·head (ap (λ (x : Constant). x .name) e)))
 taken-done {c} done (List·Memᴰ·tail {x = d} m) = taken-done (d .name ∷ done) m
 
 done-taken :
-    (taken : List Constant) (done : List ℕ) (n : ℕ) → has n (doneAfter taken done) ≡ true →
+    (taken : List Constant) (done : List ℕ) (n : ℕ) → has n (doneBy taken done) ≡ true →
     ((c : Constant) × List·Memᴰ c taken × (c .name ≡ n)) ⊎ (has n done ≡ true)
 done-taken [] done n h = inr h
 done-taken (c ∷ taken) done n h =
@@ -141,6 +137,9 @@ done-taken (c ∷ taken) done n h =
     (λ x. inl (x .0, List·Memᴰ·tail (x .1), x .2))
     (λ g. ⊎-elim (λ q. inl (c, List·Memᴰ·head refl, q)) (λ k. inr k) (has-first n (c .name) done g))
     (done-taken taken (c .name ∷ done) n h)
+
+pub reached-admitted : {w : Way} {cs : List Constant} {c : Constant} → Reached w cs c → admits w cs c ≡ true
+reached-admitted (reached m a named) = a
 
 module _ (w : Way) (cs : List Constant) where
   pub taken-declared : (taken : List Constant) (done : List ℕ) → InTurn w cs done taken → (c : Constant) → List·Memᴰ c taken → List·Memᴰ c cs
@@ -150,11 +149,12 @@ module _ (w : Way) (cs : List Constant) where
 
   none-left :
       (taken : List Constant) (done : List ℕ) → InTurn w cs done taken →
-      (c : Constant) → List·Memᴰ c cs → ready w cs (doneAfter taken done) c ≡ false
+      (c : Constant) → List·Memᴰ c cs → ready w cs (doneBy taken done) c ≡ false
   none-left [] done t = t
   none-left (c ∷ taken) done t = none-left taken (c .name ∷ done) (t .2)
 
   module _ (distinct : Distinct cs) where
+    -- what is done is reached, and so is what is ready then
     abbrev AllReached : List ℕ → Type 0
     AllReached done = (d : Constant) → List·Memᴰ d cs → has (d .name) done ≡ true → Reached w cs d
 
@@ -167,44 +167,102 @@ module _ (w : Way) (cs : List Constant) where
     one-more done all c m r d k h =
         ⊎-elim (λ q. subst (Reached w cs) (distinct c d m k q) r) (all d k) (has-first (d .name) (c .name) done h)
 
-    sound :
-        (taken : List Constant) (done : List ℕ) → InTurn w cs done taken → AllReached done →
-        (c : Constant) → List·Memᴰ c taken → Reached w cs c
-    sound [] done t all x m = absurd (List·Memᴰ·not-nil m)
-    sound (c ∷ taken) done t all x m =
-        let r = ready-reached done all c (t .0) (t .1) in
-        ⊎-elim
-        (λ q. subst (Reached w cs) (sym q) r)
-        (sound taken (c .name ∷ done) (t .2) (one-more done all c (t .0) r) x)
-        (List·Memᴰ·cases-cons m)
+    all-reached :
+        (taken rest : List Constant) (done : List ℕ) → InTurn w cs done (taken ++ rest) → AllReached done → AllReached (doneBy taken done)
+    all-reached [] rest done t all = all
+    all-reached (c ∷ taken) rest done t all =
+        all-reached taken rest (c .name ∷ done) (t .2) (one-more done all c (t .0) (ready-reached done all c (t .0) (t .1)))
+
+    -- some were taken from the start on
+    module _ (taken rest : List Constant) (t : InTurn w cs [] (taken ++ rest)) where
+      declared : (c : Constant) → List·Memᴰ c taken → List·Memᴰ c cs
+      declared c m = taken-declared (taken ++ rest) [] t c (Memᴰ·append-left rest m)
+
+      done-reached : AllReached (doneBy taken [])
+      done-reached = all-reached taken rest [] t (λ d k h. absurd (List·Memᴰ·not-nil (has-mem (d .name) [] h)))
+
+      is-taken : (c : Constant) → List·Memᴰ c cs → has (c .name) (doneBy taken []) ≡ true → List·Memᴰ c taken
+      is-taken c m h =
+          ⊎-elim
+          (λ x. Memᴰ·cast (distinct c (x .0) m (declared (x .0) (x .1)) (sym (x .2))) (x .1))
+          (λ h. absurd (List·Memᴰ·not-nil (has-mem (c .name) [] h)))
+          (done-taken taken [] (c .name) h)
+
+      is-ready-then :
+          (c : Constant) → Reached w cs c → has (c .name) (doneBy taken []) ≡ false →
+          ((d : Constant) → List·Memᴰ d cs → has (d .name) (refs (c .expr)) ≡ true → List·Memᴰ d taken) →
+          ready w cs (doneBy taken []) c ≡ true
+      is-ready-then c r e named =
+          ready-if w cs (doneBy taken []) c (
+          record {
+            fresh = e;
+            admitted = reached-admitted r;
+            behind =
+                λ n h k.
+                let x = declares-mem cs n k in
+                subst (λ (j : ℕ). has j (doneBy taken []) ≡ true) (x .2)
+                (taken-done [] (named (x .0) (x .1) (subst (λ (j : ℕ). has j (refs (c .expr)) ≡ true) (sym (x .2)) h)));
+          }
+          )
+
+    sound : (taken : List Constant) → InTurn w cs [] taken → (c : Constant) → List·Memᴰ c taken → Reached w cs c
+    sound taken t c m =
+        done-reached taken [] (subst (InTurn w cs []) (sym (append-nil taken)) t) c (taken-declared taken [] t c m) (taken-done [] m)
 
     complete : (taken : List Constant) → InTurn w cs [] taken → {c : Constant} → Reached w cs c → List·Memᴰ c taken
     complete taken t {c} (reached m a named) =
-        go (has (c .name) (doneAfter taken [])) refl (λ d k h. complete taken t (named d k h))
+        go (has (c .name) (doneBy taken [])) refl (λ d k h. complete taken t (named d k h))
       where
+        all : InTurn w cs [] (taken ++ [])
+        all = subst (InTurn w cs []) (sym (append-nil taken)) t
+
         go :
-            (b : Bool) → has (c .name) (doneAfter taken []) ≡ b →
+            (b : Bool) → has (c .name) (doneBy taken []) ≡ b →
             ((d : Constant) → List·Memᴰ d cs → has (d .name) (refs (c .expr)) ≡ true → List·Memᴰ d taken) →
             List·Memᴰ c taken
-        go true e rest =
-            ⊎-elim
-            (λ x. Memᴰ·cast (distinct c (x .0) m (taken-declared taken [] t (x .0) (x .1)) (sym (x .2))) (x .1))
-            (λ h. absurd (List·Memᴰ·not-nil (has-mem (c .name) [] h)))
-            (done-taken taken [] (c .name) e)
-        go false e rest = absurd (true≢false (sym (ready-if w cs (doneAfter taken []) c is) ∙ none-left taken [] t c m))
-          where
-            is : IsReady w cs (doneAfter taken []) c
-            is =
-                record {
-                  fresh = e;
-                  admitted = a;
-                  behind =
-                      λ n h k.
-                      let x = declares-mem cs n k in
-                      subst (λ (j : ℕ). has j (doneAfter taken []) ≡ true) (x .2)
-                      (taken-done [] (rest (x .0) (x .1) (subst (λ (j : ℕ). has j (refs (c .expr)) ≡ true) (sym (x .2)) h)));
-                }
+        go true e below = is-taken taken [] all c m e
+        go false e below =
+            absurd (true≢false (sym (is-ready-then taken [] all c (reached m a named) e below) ∙ none-left taken [] t c m))
 
 pub in-turn-takes-reached : InTurnTakesReached
-in-turn-takes-reached w cs distinct taken t c =
-    (sound w cs distinct taken [] t (λ d k h. absurd (List·Memᴰ·not-nil (has-mem (d .name) [] h))) c, λ r. complete w cs distinct taken t r)
+in-turn-takes-reached w cs distinct taken t c = (sound w cs distinct taken t c, λ r. complete w cs distinct taken t r)
+
+pub ready-is-reached : ReadyIsReached
+ready-is-reached w cs distinct taken rest t c m = (
+  λ e.
+      let r = is-ready w cs (doneBy taken []) c e in (
+        ready-reached w cs distinct (doneBy taken []) (done-reached w cs distinct taken rest t) c m e,
+        λ k. true≢false (sym (taken-done [] k) ∙ r .fresh),
+        λ d k h. is-taken w cs distinct taken rest t d k (r .behind (d .name) h (mem-declares (d .name) k refl)),
+      ),
+  λ h. is-ready-then w cs distinct taken rest t c (h .0) (untaken (has (c .name) (doneBy taken [])) refl (h .1)) (h .2),
+)
+  where
+    untaken : (b : Bool) → has (c .name) (doneBy taken []) ≡ b → (List·Memᴰ c taken → ⊥) → b ≡ false
+    untaken false e out = refl
+    untaken true e out = absurd (out (is-taken w cs distinct taken rest t c m e))
+
+pub order-takes-reached : OrderTakesReached
+order-takes-reached w cs distinct = in-turn-takes-reached w cs distinct (order w cs) (order-is-in-turn w cs)
+
+pub reached-is-least : ReachedIsLeast
+reached-is-least w cs P step c (reached m a named) = step c m a (λ d k h. reached-is-least w cs P step d (named d k h))
+
+-- what is taken was not done
+pub fresh :
+    (w : Way) (cs taken : List Constant) (done : List ℕ) → InTurn w cs done taken → (c : Constant) → List·Memᴰ c taken →
+    has (c .name) done ≡ true → ⊥
+fresh w cs [] done r x m h = List·Memᴰ·not-nil m
+fresh w cs (c ∷ taken) done r x m h =
+    ⊎-elim
+    (λ q. true≢false (sym h ∙ ap (λ (d : Constant). has (d .name) done) q ∙ is-ready w cs done c (r .1) .fresh))
+    (λ k. fresh w cs taken (c .name ∷ done) (r .2) x k (has-later (x .name) (c .name) done h))
+    (List·Memᴰ·cases-cons m)
+
+pub in-turn-takes-once : InTurnTakesOnce
+in-turn-takes-once w cs taken r = go taken [] r
+  where
+    go : (taken : List Constant) (done : List ℕ) → InTurn w cs done taken → Once taken
+    go [] done r = tt
+    go (c ∷ taken) done r =
+        (λ d m e. fresh w cs taken (c .name ∷ done) (r .2) d m (mem-has (List·Memᴰ·head e)), go taken (c .name ∷ done) (r .2))

@@ -3,13 +3,14 @@
 -- Assumes nothing.
 use Prim.Native.Nat.{ℕ}
 use mathlib.Core.Bool.{true, false}
-use mathlib.Core.List.{List, [], _∷_, List·Memᴰ}
+use mathlib.Core.List.{List, [], _∷_, _++_, List·Memᴰ}
 use mathlib.Core.Logic.{_↔_}
 use mathlib.Core.Option.{Option, some, none}
 use mathlib.Core.Path.{_≡_}
 use lib.IntN.{ℤ}
 use Rattle.constants.specs.Eval.{Table, empty, store, evalConstExpr}
-use Rattle.constants.specs.Order.{Constant, Way, Settled, Reached, ready, order, settle, outcome}
+use Rattle.constants.specs.Expr.{refs}
+use Rattle.constants.specs.Order.{Constant, Way, Settled, Reached, has, admits, ready, order, settle, outcome}
 use Rattle.constants.specs.Stored.{Stored}
 
 -- a name is declared by one constant
@@ -17,7 +18,8 @@ abbrev pub Distinct : List Constant → Type 0
 Distinct cs = (c d : Constant) → List·Memᴰ c cs → List·Memᴰ d cs → c .name ≡ d .name → c ≡ d
 
 -- The order. `taken` is an order in which the constants may be done that are left when `done` are done: each is ready in its turn, and behind the
--- last none is. The original has any such order; `order` always takes the earliest.
+-- last none is. The original takes one of these, as its hash map has it; `order` always takes the
+-- earliest.
 abbrev pub InTurn : Way → List Constant → List ℕ → List Constant → Type 0
 InTurn w cs done [] = (c : Constant) → List·Memᴰ c cs → ready w cs done c ≡ false
 InTurn w cs done (c ∷ taken) = List·Memᴰ c cs × (ready w cs done c ≡ true) × InTurn w cs (c .name ∷ done) taken
@@ -25,11 +27,47 @@ InTurn w cs done (c ∷ taken) = List·Memᴰ c cs × (ready w cs done c ≡ tru
 abbrev pub OrderIsInTurn : Type 0
 OrderIsInTurn = (w : Way) (cs : List Constant) → InTurn w cs [] (order w cs)
 
--- any order takes exactly the reached ones
+-- any order takes exactly the reached ones, and so does `order`
 abbrev pub InTurnTakesReached : Type 0
 InTurnTakesReached =
     (w : Way) (cs : List Constant) → Distinct cs → (taken : List Constant) → InTurn w cs [] taken →
     (c : Constant) → List·Memᴰ c taken ↔ Reached w cs c
+
+abbrev pub OrderTakesReached : Type 0
+OrderTakesReached =
+    (w : Way) (cs : List Constant) → Distinct cs → (c : Constant) → List·Memᴰ c (order w cs) ↔ Reached w cs c
+
+-- "least such set": whatever holds of a constant that is admitted, if it holds of those that it names, holds of the reached ones
+abbrev pub ReachedIsLeast : Type 1
+ReachedIsLeast =
+    (w : Way) (cs : List Constant) (P : Constant → Type 0) →
+    ((c : Constant) → List·Memᴰ c cs → admits w cs c ≡ true →
+    ((d : Constant) → List·Memᴰ d cs → has (d .name) (refs (c .expr)) ≡ true → P d) → P c) →
+    (c : Constant) → Reached w cs c → P c
+
+-- the names that are done when some constants were taken
+abbrev pub doneBy : List Constant → List ℕ → List ℕ
+doneBy [] done = done
+doneBy (c ∷ taken) done = doneBy taken (c .name ∷ done)
+
+-- "always the earliest reached one whose declared references are done": what is ready behind those taken so far is what is reached, not taken, and
+-- names of the declared only what is taken
+abbrev pub ReadyIsReached : Type 0
+ReadyIsReached =
+    (w : Way) (cs : List Constant) → Distinct cs → (taken rest : List Constant) → InTurn w cs [] (taken ++ rest) →
+    (c : Constant) → List·Memᴰ c cs →
+    (ready w cs (doneBy taken []) c ≡ true) ↔
+    (Reached w cs c
+    × (List·Memᴰ c taken → ⊥)
+    × ((d : Constant) → List·Memᴰ d cs → has (d .name) (refs (c .expr)) ≡ true → List·Memᴰ d taken))
+
+-- no name is taken twice
+abbrev pub Once : List Constant → Type 0
+Once [] = Unit
+Once (c ∷ cs) = ((d : Constant) → List·Memᴰ d cs → d .name ≡ c .name → ⊥) × Once cs
+
+abbrev pub InTurnTakesOnce : Type 0
+InTurnTakesOnce = (w : Way) (cs taken : List Constant) → InTurn w cs [] taken → Once taken
 
 -- The values. The table behind all that were settled, one after the other
 unfoldable pub after : Table → List Constant → Table

@@ -1,5 +1,6 @@
--- Demand 3, as one claim about any lowering: about the replies and the result slices of any two of its runs, "whatever slices each is lent". Words
--- in quotation marks are the demand's or document 01's.
+-- Demand 3, as one claim about any lowering: about the replies and the result slices of any two of its runs, "whatever slices each is lent". It
+-- does not say again what demands 1 and 2 do: which books are accepted, and what else is answered and written. The proof for `lowerBook` is in
+-- proofs/Demand3.antt. Words in quotation marks are the demand's or document 01's.
 -- Assumes nothing.
 use Prim.Native.Nat.{ℕ}
 use mathlib.Core.Bool.{true}
