@@ -25,10 +25,10 @@ eval-agree s t (operation o l r) h =
     λ i. applyTo o (x i) (y i)
 
 -- both sides of an operation that has a value
-abbrev Has : Option ℤ → Type 0
-Has o = (y : ℤ) × (o ≡ some y)
+abbrev Valued : Option ℤ → Type 0
+Valued o = (y : ℤ) × (o ≡ some y)
 
-sides : (o : Op) (x y : Option ℤ) (z : ℤ) → applyTo o x y ≡ some z → Has x × Has y
+sides : (o : Op) (x y : Option ℤ) (z : ℤ) → applyTo o x y ≡ some z → Valued x × Valued y
 unfolding applyTo
 sides o none y z e = absurd (Option·none-ne-some z e)
 sides o (some a) none z e = absurd (Option·none-ne-some z e)

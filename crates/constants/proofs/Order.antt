@@ -16,7 +16,7 @@ use Rattle.book.proofs.Lists.{keep-length}
 use Rattle.constants.specs.Expr.{refs}
 use Rattle.constants.specs.Order.{Constant, Way, Reached, reached, has, admits, ready, orderFrom, order}
 use Rattle.constants.specs.Theory.{Distinct, InTurn, doneBy, OrderIsInTurn, InTurnTakesReached, ReadyIsReached, OrderTakesReached, ReachedIsLeast, Once, InTurnTakesOnce}
-use Rattle.constants.proofs.Tests.{has-mem, mem-has, declares-mem, mem-declares, IsReady, is-ready, ready-if}
+use Rattle.constants.proofs.Tests.{has-mem, mem-has, declares-mem, mem-declares, is-ready, ready-if}
 
 -- fewer pass a test that more fail
 module _ {A : Type 0} (p q : A → Bool) (h : (x : A) → q x ≡ true → p x ≡ true) where

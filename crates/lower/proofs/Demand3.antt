@@ -24,7 +24,7 @@ use Rattle.constants.proofs.Stored.{stores-the-stored}
 use Rattle.constants.proofs.Changes.{nothing-on-rings, extension-keeps, reordering}
 use Rattle.lower.specs.LowerBook.{lowerBook}
 use Rattle.lower.specs.Laws.{IsAccepted}
-use Rattle.lower.specs.Demand3.{Stands, DeclaresAllOf, AddsNoneTo, OfEach, OfBoth, Demand3}
+use Rattle.lower.specs.Demand3.{DeclaresAllOf, AddsNoneTo, OfEach, OfBoth, Demand3}
 use Rattle.lower.proofs.Told.{stored-are-told, accepted-unrefused}
 
 -- one accepted book
@@ -35,30 +35,17 @@ module _ (book results diagnostics : List ℕ) (bytes : AreBytes book) (is : IsA
   distinct : Distinct (constants (read book))
   distinct = accepted-is-distinct book unrefused
 
-  -- what stands in the slice is what the theory says is stored
-  stands-if :
-      (n v : ℕ) →
-      Stands (lowerBook book results diagnostics) n v ↔ ((z : ℤ) × (word z ≡ v) × Stores each empty (constants (read book)) n z)
-  stands-if n v = (
-    λ s.
-        stored-are-told book results diagnostics _ _ _ bytes (s .reply .reply) n v .0
-        (s .constant, s .counted, s .marked, s .name, s .value),
-    λ h.
-        let x = stored-are-told book results diagnostics _ _ _ bytes (is .reply) n v .1 h in
-        record { reply = is; constant = x .0; counted = x .1; marked = x .2; name = x .3; value = x .4 },
-  )
-
   of-each : OfEach book (lowerBook book results diagnostics)
   of-each =
       record {
         exactly =
             λ n v. (
-              λ s. let x = stands-if n v .0 s in (x .0, x .1, stores-the-stored each (constants (read book)) distinct n (x .0) .0 (x .2)),
-              λ h. stands-if n v .1 (h .0, h .1, stores-the-stored each (constants (read book)) distinct n (h .0) .1 (h .2)),
+              λ s. let x = stored-are-told book results diagnostics bytes is n v .0 s in (x .0, x .1, stores-the-stored each (constants (read book)) distinct n (x .0) .0 (x .2)),
+              λ h. stored-are-told book results diagnostics bytes is n v .1 (h .0, h .1, stores-the-stored each (constants (read book)) distinct n (h .0) .1 (h .2)),
             );
         no-ring =
             λ c m ring v s.
-            let x = stands-if (c .name) v .0 s in
+            let x = stored-are-told book results diagnostics bytes is (c .name) v .0 s in
             let y = x .2 in
             let r = settles-if each empty (constants (read book)) distinct (y .0) (some (x .0)) .0 (y .2) .0 in
             nothing-on-rings each empty (constants (read book)) distinct c (x .0)
@@ -98,19 +85,19 @@ module _
               let x = stores-the-stored each (constants (read first)) one n z .1 s in
               let y = extension-keeps each empty (constants (read first)) (constants (read second)) one two has-all (λ c m. refl) n z x in (
                 stores-the-stored each (constants (read second)) two n z .0 y,
-                stands-if first results diagnostics bytes is n (word z) .1 (z, refl, x),
-                stands-if second others notes more was n (word z) .1 (z, refl, y),
+                stored-are-told first results diagnostics bytes is n (word z) .1 (z, refl, x),
+                stored-are-told second others notes more was n (word z) .1 (z, refl, y),
               );
           same =
               λ adds n v.
               let alike : (z : ℤ) → stores-first n z ↔ Stores each empty (constants (read second)) n z =
               λ z. reordering each empty (constants (read first)) (constants (read second)) one two has-all (has-no-more adds) n (some z) in (
                 λ s.
-                    let x = stands-if first results diagnostics bytes is n v .0 s in
-                    stands-if second others notes more was n v .1 (x .0, x .1, alike (x .0) .0 (x .2)),
+                    let x = stored-are-told first results diagnostics bytes is n v .0 s in
+                    stored-are-told second others notes more was n v .1 (x .0, x .1, alike (x .0) .0 (x .2)),
                 λ s.
-                    let x = stands-if second others notes more was n v .0 s in
-                    stands-if first results diagnostics bytes is n v .1 (x .0, x .1, alike (x .0) .1 (x .2)),
+                    let x = stored-are-told second others notes more was n v .0 s in
+                    stored-are-told first results diagnostics bytes is n v .1 (x .0, x .1, alike (x .0) .1 (x .2)),
               );
         }
       where

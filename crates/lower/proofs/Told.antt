@@ -1,6 +1,7 @@
 -- The 41s in the result slice of an accepted book are those of the reached constants; those marked stored have the stored names and values.
 -- Assumes nothing.
 use Prim.Native.Nat.{ℕ}
+use mathlib.Core.Bool.{true}
 use mathlib.Core.List.{List, map, List·Memᴰ}
 use mathlib.Core.List.{Memᴰ·cast, Memᴰ·map, Memᴰ·of-map}
 use mathlib.Core.Option.{Option, some, none}
@@ -22,9 +23,10 @@ use Rattle.constants.specs.Eval.{empty}
 use Rattle.constants.specs.Order.{Constant, each, Settled, outcome}
 use Rattle.constants.specs.Declared.{settled}
 use Rattle.bodies.specs.Constant.{constantsIn, constantOf}
+use Rattle.types.specs.Step.{isStored}
 use Rattle.lower.specs.LowerBook.{lowerBook}
-use Rattle.lower.specs.Laws.{Leaves, IsAccepted}
-use Rattle.lower.specs.Told.{ReachedAreTold, HasStored, StoresWord, StoredAreTold}
+use Rattle.lower.specs.Laws.{Leaves, IsAccepted, firstRecords}
+use Rattle.lower.specs.Told.{ReachedAreTold, StoresWord, StoredAreTold}
 use Rattle.lower.proofs.Written.{reached-are-written}
 use Rattle.lower.proofs.Laws.{accepted-by-none, slices-are-left}
 
@@ -39,7 +41,10 @@ reached-are-told book results diagnostics r d c bytes e =
 
 -- from the 41s of some records and the reached ones of some constants to those marked stored and those that are stored
 module _ (rs : List Record) (cs : List Constant) (same : constantsIn rs ≡ map constantOf (outcome each empty cs)) (n v : ℕ) where
-  stored-there : HasStored rs n v → StoresWord cs n v
+  abbrev Marked : Type 0
+  Marked = (x : Record) × List·Memᴰ x rs × (isStored x ≡ true) × (x .a ≡ n) × (x .v ≡ v)
+
+  stored-there : Marked → StoresWord cs n v
   unfolding constantsIn constantOf
   stored-there (x, m, marked, name, value) =
       let (is-41, stored) = both-so (isKind 41 x) (eqb (x .sub) 1) marked in
@@ -56,7 +61,7 @@ module _ (rs : List Record) (cs : List Constant) (same : constantsIn rs ≡ map 
           let whole : record { constant = y .constant; value = some z } ≡ y = λ i. record { constant = y .constant; value = sym p i } in
           (z, ap (λ t. t .2) is ∙ value, (y .constant, ap (λ t. t .0) is ∙ name, Memᴰ·cast whole k))
 
-  stored-back : StoresWord cs n v → HasStored rs n v
+  stored-back : StoresWord cs n v → Marked
   unfolding constantsIn constantOf
   stored-back (z, value, (c, name, k)) =
       let among = subst (List·Memᴰ (c .name, 1, word z)) (sym same) (Memᴰ·map constantOf k) in
@@ -66,6 +71,14 @@ module _ (rs : List Record) (cs : List Constant) (same : constantsIn rs ≡ map 
 
 pub stored-are-told : StoredAreTold
 unfolding settled
-stored-are-told book results diagnostics r d c bytes e n v =
-    let same = reached-are-told book results diagnostics r d c bytes e in
-    (stored-there _ _ same n v, stored-back _ _ same n v)
+stored-are-told book results diagnostics bytes is n v = (
+  λ s. stored-there _ _ (same (s .reply)) n v (s .constant, s .counted, s .marked, s .name, s .value),
+  λ h.
+      let (x, counted, marked, name, value) = stored-back _ _ (same is) n v h in
+      record { reply = is; constant = x; counted = counted; marked = marked; name = name; value = value },
+)
+  where
+    same :
+        (a : IsAccepted (lowerBook book results diagnostics)) →
+        constantsIn (firstRecords (a .results) ((lowerBook book results diagnostics) .results)) ≡ map constantOf (settled (read book))
+    same a = reached-are-told book results diagnostics _ _ _ bytes (a .reply)

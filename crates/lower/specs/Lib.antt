@@ -1,5 +1,5 @@
 pub mod LowerBook
 pub mod Written
 pub mod Laws
-pub mod Told
 pub mod Demand3
+pub mod Told

@@ -2,12 +2,10 @@
 -- 01's.
 -- Assumes nothing.
 use Prim.Native.Nat.{ℕ}
-use mathlib.Core.Bool.{true}
-use mathlib.Core.List.{List, map, List·Memᴰ}
+use mathlib.Core.List.{List, map}
 use mathlib.Core.Logic.{_↔_}
 use mathlib.Core.Path.{_≡_}
 use lib.IntN.{ℤ}
-use Rattle.record.specs.declared.Record.{Record}
 use Rattle.record.specs.Bytes.{AreBytes}
 use Rattle.arith.specs.Word.{word}
 use Rattle.book.specs.Outline.{read}
@@ -15,10 +13,10 @@ use Rattle.constants.specs.Eval.{empty}
 use Rattle.constants.specs.Order.{Constant, each}
 use Rattle.constants.specs.Declared.{constants, settled}
 use Rattle.constants.specs.Theory.{Stores}
-use Rattle.types.specs.Step.{isStored}
 use Rattle.bodies.specs.Constant.{constantsIn, constantOf}
 use Rattle.lower.specs.LowerBook.{accepted, lowerBook}
-use Rattle.lower.specs.Laws.{firstRecords}
+use Rattle.lower.specs.Laws.{IsAccepted, firstRecords}
+use Rattle.lower.specs.Demand3.{Stands}
 
 -- the 41s among the results counted are those of the reached constants, in their order
 abbrev pub ReachedAreTold : Type 0
@@ -28,20 +26,15 @@ ReachedAreTold =
     (lowerBook book results diagnostics) .reply ≡ accepted r d c →
     constantsIn (firstRecords r ((lowerBook book results diagnostics) .results)) ≡ map constantOf (settled (read book))
 
--- among some records is a 41 marked stored with the name n and the word v
-abbrev pub HasStored : List Record → ℕ → ℕ → Type 0
-HasStored rs n v = (x : Record) × List·Memᴰ x rs × (isStored x ≡ true) × (x .a ≡ n) × (x .v ≡ v)
-
 -- some constants store a value with the word v under the name n, no constant having a value beforehand
 abbrev pub StoresWord : List Constant → ℕ → ℕ → Type 0
 StoresWord cs n v = (z : ℤ) × (word z ≡ v) × Stores each empty cs n z
 
--- "41 reached constant (sub 1 stored, a, b type, v value or 0)": those marked stored among the results counted have the names and values that
--- are stored, and no others
+-- the names and values that stand in the slice are those that are stored
 abbrev pub StoredAreTold : Type 0
 StoredAreTold =
-    (book results diagnostics : List ℕ) (r d c : ℕ) →
+    (book results diagnostics : List ℕ) →
     AreBytes book →
-    (lowerBook book results diagnostics) .reply ≡ accepted r d c →
+    IsAccepted (lowerBook book results diagnostics) →
     (n v : ℕ) →
-    HasStored (firstRecords r ((lowerBook book results diagnostics) .results)) n v ↔ StoresWord (constants (read book)) n v
+    Stands (lowerBook book results diagnostics) n v ↔ StoresWord (constants (read book)) n v
