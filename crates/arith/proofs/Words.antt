@@ -77,6 +77,12 @@ integer-and-back (negsuc n) low high =
     let h : n < 2 ^ 63 = omega (arith, leb→le n (2 ^ 63 - 1) (low .le)) in
     signed-negsuc (2 ^ 64 - suc n) (omega arith) (omega arith) ∙ ap negsuc (omega arith)
 
+-- the 64 bits of an i64 are 64
+pub word-below : (z : ℤ) → MIN ≤ℤ z → z ≤ℤ MAX → word z < 2 ^ 64
+unfolding word
+word-below (pos n) low high = omega (arith, leb→le n (2 ^ 63 - 1) (high .le))
+word-below (negsuc n) low high = omega arith
+
 pub signed-is-i64 : SignedIsI64
 signed-is-i64 =
     by-half (λ w. (MIN ≤ℤ signed w) × (signed w ≤ℤ MAX))

@@ -1,4 +1,4 @@
--- The records of reached constants: within their widths, if the book's are and the values are words; one for each constant, in their order; as
+-- The records of reached constants: within their widths, if the book's are and the values are i64s; one for each constant, in their order; as
 -- many marked stored as are counted.
 -- Assumes nothing.
 use Prim.Native.Nat.{ℕ, suc, _^_, _<_}
@@ -11,10 +11,11 @@ use lib.IntN.{ℤ}
 use lib.ListN.{length}
 use Rattle.record.specs.declared.Record.{Record}
 use Rattle.record.specs.Layout.{Within}
+use Rattle.arith.proofs.Words.{word-below}
 use Rattle.book.specs.Lists.{All, keep}
 use Rattle.book.specs.Outline.{Book, _!_}
 use Rattle.constants.specs.Order.{Settled}
-use Rattle.constants.proofs.Values.{IsWord}
+use Rattle.constants.specs.Values.{IsI64}
 use Rattle.types.specs.Lowering.{andThen}
 use Rattle.types.specs.Events.{writes, events, written}
 use Rattle.types.specs.Step.{_>>_, emit, give}
@@ -31,14 +32,15 @@ module _ {W S : Type 0} where
   keeps-tell-unless none r h = keeps-tell r h
 
   fine-constant :
-      (o : Option ℤ) (r : Record) (type : ℕ) → (S → ⊥) → (W → IsWord o × Within r × (type < 2 ^ 16)) →
+      (o : Option ℤ) (r : Record) (type : ℕ) → (S → ⊥) → (W → IsI64 o × Within r × (type < 2 ^ 16)) →
       Fine W S (writes (constantRecord o r type))
   unfolding constantRecord
-  fine-constant (some z) r type no-s h = (λ s. absurd (no-s s), λ w. omega (arith, h w))
+  fine-constant (some z) r type no-s h =
+      (λ s. absurd (no-s s), λ w. let (i64, within, type) = h w in omega (arith, word-below z (i64 .0) (i64 .1), within, type))
   fine-constant none r type no-s h = (λ s. absurd (no-s s), λ w. omega (arith, h w))
 
 module _ {W S : Type 0} (book : Book) (given : W → All Within (book .records)) where
-  keeps-constant : (S → ⊥) → (c : Settled) → (W → IsWord (c .value)) → Keeps W S (λ x. Unit) (lowerConstant book c)
+  keeps-constant : (S → ⊥) → (c : Settled) → (W → IsI64 (c .value)) → Keeps W S (λ x. Unit) (lowerConstant book c)
   unfolding lowerConstant
   keeps-constant no-s c h =
       let n = c .constant .place in
@@ -53,7 +55,7 @@ module _ {W S : Type 0} (book : Book) (given : W → All Within (book .records))
       (keeps-give tt tt))))
 
   pub keeps-constants :
-      (S → ⊥) → (cs : List Settled) → (W → All (λ c. IsWord (c .value)) cs) → Keeps W S (λ x. Unit) (lowerConstants book cs)
+      (S → ⊥) → (cs : List Settled) → (W → All (λ c. IsI64 (c .value)) cs) → Keeps W S (λ x. Unit) (lowerConstants book cs)
   unfolding lowerConstants
   keeps-constants no-s [] h = keeps-give tt tt
   keeps-constants no-s (c ∷ cs) h = keeps-next (keeps-constant no-s c (λ w. h w .0)) (keeps-constants no-s cs (λ w. h w .1))

@@ -1,10 +1,10 @@
 -- What holds of each element of a list, and of what may be there.
 -- Assumes nothing.
-use Prim.Native.Nat.{ℕ, zero, suc, _≤_}
-use mathlib.Core.Bool.{Bool, true, false, cond}
-use mathlib.Core.List.{List, [], _∷_, _++_, map}
+use Prim.Native.Nat.{ℕ, zero, suc, _≤_, _<_}
+use mathlib.Core.Bool.{Bool, true, false, cond, false≢true}
+use mathlib.Core.List.{List, [], _∷_, _++_, map, List·Memᴰ, List·Memᴰ·head, List·Memᴰ·tail}
 use mathlib.Core.Option.{Option, some, none}
-use mathlib.Core.Path.{_≡_, refl, ap}
+use mathlib.Core.Path.{_≡_, refl, sym, ap, _∙_}
 use native.Mathlib.Omega.{arith}
 use lib.ListN.{length, drop, getD}
 use Rattle.book.specs.Lists.{All, find, keep, keepWhile, from}
@@ -68,3 +68,40 @@ pub from-length : (n m : ℕ) → length (from n m) ≡ m
 unfolding from
 from-length n zero = refl
 from-length n (suc m) = ap suc (from-length (suc n) m)
+
+-- two tests that agree on the members of a list keep the same
+pub keep-agree : {A : Type 0} (p q : A → Bool) (l : List A) → ((x : A) → List·Memᴰ x l → p x ≡ q x) → keep p l ≡ keep q l
+unfolding keep
+keep-agree p q [] h = refl
+keep-agree p q (x ∷ l) h =
+    let e = h x (List·Memᴰ·head refl) in
+    let k = keep-agree p q l (λ y m. h y (List·Memᴰ·tail m)) in
+    λ i. cond (e i) (x ∷ k i) (k i)
+
+-- a test that passes fewer keeps fewer
+module _ {A : Type 0} (p q : A → Bool) (h : (x : A) → q x ≡ true → p x ≡ true) where
+  fewer : (l : List A) → length (keep q l) ≤ length (keep p l)
+  unfolding keep
+  fewer [] = omega arith
+  fewer (x ∷ l) = go (p x) (q x) (h x) (fewer l)
+    where
+      go :
+          (a b : Bool) → (b ≡ true → a ≡ true) → length (keep q l) ≤ length (keep p l) →
+          length (cond b (x ∷ keep q l) (keep q l)) ≤ length (cond a (x ∷ keep p l) (keep p l))
+      go true true f less = omega arith
+      go true false f less = omega arith
+      go false true f less = absurd (false≢true (f refl))
+      go false false f less = less
+
+  pub keep-less : {x : A} {l : List A} → List·Memᴰ x l → p x ≡ true → q x ≡ false → length (keep q l) < length (keep p l)
+  unfolding keep
+  keep-less (List·Memᴰ·head {xs = l} e) t f = rw (sym (ap p e) ∙ t, sym (ap q e) ∙ f) (omega (arith, fewer l))
+  keep-less (List·Memᴰ·tail {x = y} {xs = l} m) t f = go (p y) (q y) (h y) (keep-less m t f)
+    where
+      go :
+          (a b : Bool) → (b ≡ true → a ≡ true) → length (keep q l) < length (keep p l) →
+          length (cond b (y ∷ keep q l) (keep q l)) < length (cond a (y ∷ keep p l) (keep p l))
+      go true true f s = omega arith
+      go true false f s = omega arith
+      go false true f s = absurd (false≢true (f refl))
+      go false false f s = s

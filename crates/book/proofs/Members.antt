@@ -2,12 +2,13 @@
 -- Assumes nothing.
 use Prim.Native.Nat.{ℕ, zero, suc, _+_, _≤_, _<_}
 use mathlib.Core.Bool.{Bool, true, false, cond, false≢true}
-use mathlib.Core.List.{List, [], _∷_, List·Memᴰ, List·Memᴰ·head, List·Memᴰ·tail, List·Memᴰ·not-nil, List·Memᴰ·cases-cons}
+use mathlib.Core.List.{List, [], _∷_, List·Memᴰ, List·Memᴰ·head, List·Memᴰ·tail, List·Memᴰ·not-nil, List·Memᴰ·cases-cons, _++_, Memᴰ·append-right}
 use mathlib.Core.Logic.{⊎-elim}
-use mathlib.Core.Path.{_≡_, refl, sym, ap, _∙_}
+use mathlib.Core.Option.{Option, some, none}
+use mathlib.Core.Path.{_≡_, refl, sym, ap, _∙_, subst}
 use native.Mathlib.Omega.{arith}
 use lib.ListN.{length, take, getD}
-use Rattle.book.specs.Lists.{any, keep, from, upTo}
+use Rattle.book.specs.Lists.{All, any, find, keep, from, upTo}
 
 module _ {A : Type 0} where
   pub mem-keep : {x : A} (test : A → Bool) (l : List A) → List·Memᴰ x (keep test l) → List·Memᴰ x l × (test x ≡ true)
@@ -54,6 +55,47 @@ module _ {A : Type 0} where
       go : (b : Bool) → any test xs ≡ true → elim b [ true ↦ true | false ↦ any test xs ] ≡ true
       go true h = refl
       go false h = h
+
+  -- what holds of each element holds of the members, and back
+  pub of-all : (P : A → Type 0) (l : List A) → All P l → (x : A) → List·Memᴰ x l → P x
+  of-all P [] p x m = absurd (List·Memᴰ·not-nil m)
+  of-all P (y ∷ l) p x m = ⊎-elim (λ e. subst P (sym e) (p .0)) (of-all P l (p .1) x) (List·Memᴰ·cases-cons m)
+
+  pub all-of : (P : A → Type 0) (l : List A) → ((x : A) → List·Memᴰ x l → P x) → All P l
+  all-of P [] h = tt
+  all-of P (x ∷ l) h = (h x (List·Memᴰ·head refl), all-of P l (λ y m. h y (List·Memᴰ·tail m)))
+
+  -- the first that passes: it stands behind some that do not
+  pub record First (test : A → Bool) (l : List A) (x : A) : Type 0 where
+    pub before : List A
+    pub behind : List A
+    pub there : l ≡ before ++ (x ∷ behind)
+    pub passes : test x ≡ true
+    pub none-before : (y : A) → List·Memᴰ y before → test y ≡ false
+
+  pub first-mem : {test : A → Bool} {l : List A} {x : A} → First test l x → List·Memᴰ x l
+  first-mem {x = x} f = subst (List·Memᴰ x) (sym (f .there)) (Memᴰ·append-right (f .before) (List·Memᴰ·head refl))
+
+  abbrev pub Found : (A → Bool) → List A → Option A → Type 0
+  Found test l none = (x : A) → List·Memᴰ x l → test x ≡ false
+  Found test l (some x) = First test l x
+
+  pub found : (test : A → Bool) (l : List A) → Found test l (find test l)
+  unfolding find
+  found test [] = λ x m. absurd (List·Memᴰ·not-nil m)
+  found test (x ∷ l) = go (test x) refl (find test l) (found test l)
+    where
+      go : (b : Bool) → test x ≡ b → (o : Option A) → Found test l o → Found test (x ∷ l) (elim b [ true ↦ some x | false ↦ o ])
+      go true e o f = record { before = []; behind = l; there = refl; passes = e; none-before = λ y m. absurd (List·Memᴰ·not-nil m) }
+      go false e none f = λ y m. ⊎-elim (λ q. ap test q ∙ e) (f y) (List·Memᴰ·cases-cons m)
+      go false e (some y) f =
+          record {
+            before = x ∷ f .before;
+            behind = f .behind;
+            there = ap (λ r. x ∷ r) (f .there);
+            passes = f .passes;
+            none-before = λ y m. ⊎-elim (λ q. ap test q ∙ e) (f .none-before y) (List·Memᴰ·cases-cons m);
+          }
 
   -- element n stands among the first k
   pub at-mem-take : (l : List A) (n k : ℕ) (d : A) → n < length l → n < k → List·Memᴰ (getD l n d) (take k l)

@@ -22,7 +22,7 @@ use Rattle.book.proofs.First.{passed-by-all}
 use Rattle.book.proofs.Records.{records-length}
 
 -- what a Boolean is by what it is not, and by its parts
-not-so : (b : Bool) → (b ≡ true → ⊥) → b ≡ false
+pub not-so : (b : Bool) → (b ≡ true → ⊥) → b ≡ false
 not-so false f = refl
 not-so true f = absurd (f refl)
 

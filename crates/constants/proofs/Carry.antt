@@ -1,27 +1,30 @@
 -- What two lists of constants have in common they settle alike.
 -- Assumes nothing.
 use Prim.Native.Nat.{ℕ}
-use mathlib.Core.Bool.{Bool, true, false, not, cond, true≢false}
-use mathlib.Core.List.{List, [], _∷_, List·Memᴰ, List·Memᴰ·head, List·Memᴰ·tail}
+use mathlib.Core.Bool.{Bool, true, false, not, true≢false}
+use mathlib.Core.List.{List, List·Memᴰ}
+use mathlib.Core.Option.{orElse}
 use mathlib.Core.Path.{_≡_, refl, sym, _∙_, ap, subst}
 use Rattle.book.specs.Lists.{keep}
+use Rattle.book.proofs.Lists.{keep-agree}
 use Rattle.constants.specs.Expr.{Expr, refs}
 use Rattle.constants.specs.Eval.{Table, evalConstExpr}
 use Rattle.constants.specs.Order.{Constant, Way, each, once, Reached, reached, has, declares, declaredRefs, repeats, admits}
-use Rattle.constants.specs.Theory.{Distinct, orElse, IsFinal}
+use Rattle.constants.specs.Theory.{Distinct, IsFinal}
 use Rattle.constants.proofs.Tests.{mem-has, declares-mem, mem-declares}
-use Rattle.constants.proofs.Order.{reached-admitted}
+use Rattle.book.proofs.Trees.{not-so}
+use Rattle.constants.specs.Changes.{DeclaresAll}
+use Rattle.constants.proofs.Order.{reached-declared, reached-admitted}
 use Rattle.constants.proofs.Eval.{eval-agree}
 
--- two tests that agree on the members of a list keep the same
-keep-agree :
-    {A : Type 0} (p q : A → Bool) (l : List A) → ((x : A) → List·Memᴰ x l → p x ≡ q x) → keep p l ≡ keep q l
-unfolding keep
-keep-agree p q [] h = refl
-keep-agree p q (x ∷ l) h =
-    let e = h x (List·Memᴰ·head refl) in
-    let k = keep-agree p q l (λ y m. h y (List·Memᴰ·tail m)) in
-    λ i. cond (e i) (x ∷ k i) (k i)
+-- a name that the larger of two lists has not, the other has not
+pub has-not : (cs ds : List Constant) → DeclaresAll cs ds → (n : ℕ) → declares cs n ≡ false → declares ds n ≡ false
+has-not cs ds all n e =
+    not-so (declares ds n)
+    (λ q.
+    let x = declares-mem ds n q in
+    let y = all (x .0) (x .1) in
+    true≢false (sym (mem-declares n (y .1) (y .2 ∙ x .2)) ∙ e))
 
 -- a constant is admitted by what its expression names of the declared ones
 pub admits-agree :
@@ -34,14 +37,6 @@ admits-agree each cs ds c d e h a =
     ∙ ap (λ (ns : List ℕ). not (repeats ns)) (sym (keep-agree (declares cs) (declares ds) (refs (c .expr)) (λ n m. h n (mem-has m))))
     ∙ a
 admits-agree once cs ds c d e h a = refl
-
-pub reached-declared : {w : Way} {cs : List Constant} {c : Constant} → Reached w cs c → List·Memᴰ c cs
-reached-declared (reached m a named) = m
-
-pub reached-names :
-    {w : Way} {cs : List Constant} {c : Constant} → Reached w cs c →
-    (d : Constant) → List·Memᴰ d cs → has (d .name) (refs (c .expr)) ≡ true → Reached w cs d
-reached-names (reached m a named) = named
 
 -- an undeclared name has what it had
 pub undeclared :
@@ -61,7 +56,6 @@ module _
     pub record Carried (c : Constant) : Type 0 where
       pub to : Constant
       pub same-name : to .name ≡ c .name
-      pub same-expr : to .expr ≡ c .expr
       pub is-reached : Reached w ds to
       pub worth : evalConstExpr F (c .expr) ≡ evalConstExpr G (to .expr)
       pub has-value : F (c .name) ≡ G (c .name)
@@ -101,7 +95,6 @@ module _
             record {
               to = x .0;
               same-name = x .2;
-              same-expr = x .3;
               is-reached = there;
               worth = same;
               has-value =

@@ -4,14 +4,13 @@ use Prim.Native.Nat.{ℕ}
 use mathlib.Core.Bool.{Bool, true, false, cond}
 use mathlib.Core.List.{List·Memᴰ, List·Memᴰ·head, List·Memᴰ·not-nil, List·Memᴰ·append-cases, List·Memᴰ·eq-of-singleton, Memᴰ·append-left, Memᴰ·append-right}
 use mathlib.Core.Logic.{⊎-elim}
-use mathlib.Core.Option.{Option, some, none, Option·none-ne-some}
+use mathlib.Core.Option.{Option, some, none, Option·none-ne-some, orElse}
 use mathlib.Core.Path.{_≡_, refl, sym, _∙_, ap}
 use lib.Dec.{eqb}
 use lib.IntN.{ℤ}
 use borrow.Author.Tests.{eqb-true, eq-eqb}
 use Rattle.constants.specs.Expr.{Expr, Op, literal, reference, operation, refs}
 use Rattle.constants.specs.Eval.{Table, store, applyTo, evalConstExpr}
-use Rattle.constants.specs.Theory.{orElse}
 
 -- two tables that agree on the names in it
 pub eval-agree :
@@ -53,6 +52,11 @@ pub eval-more :
     evalConstExpr s e ≡ some z → evalConstExpr t e ≡ some z
 eval-more s t e z h q =
     eval-agree t s e (λ n m. let x = eval-strict s e z q n m in h n (x .0) (x .1) ∙ sym (x .1)) ∙ q
+
+pub or-else-none : (o : Option ℤ) → orElse o none ≡ o
+unfolding orElse
+or-else-none none = refl
+or-else-none (some z) = refl
 
 -- a value is stored: under its name and under others
 pub store-own : (t : Table) (n : ℕ) (o : Option ℤ) → store t n o n ≡ orElse o (t n)

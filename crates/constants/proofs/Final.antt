@@ -4,15 +4,16 @@ use Prim.Native.Nat.{ℕ}
 use mathlib.Core.Bool.{Bool, true, false, true≢false}
 use mathlib.Core.List.{List, [], _∷_, List·Memᴰ, List·Memᴰ·head, List·Memᴰ·tail, List·Memᴰ·cases-cons, List·Memᴰ·not-nil, Memᴰ·cast}
 use mathlib.Core.Logic.{_↔_, ⊎-elim}
-use mathlib.Core.Option.{Option}
+use mathlib.Core.Option.{Option, some, none, orElse}
 use mathlib.Core.Path.{_≡_, refl, sym, _∙_, ap, subst}
 use lib.IntN.{ℤ}
 use Rattle.constants.specs.Eval.{Table, store, evalConstExpr}
 use Rattle.constants.specs.Order.{Constant, Way, Settled, Reached, has, declares, order, settle, outcome}
-use Rattle.constants.specs.Theory.{Distinct, InTurn, after, orElse, IsFinal, AnyOrderIsFinal, FinalIsOne, SettledOverFinal, SettlesAs}
+use Rattle.constants.specs.Theory.{Distinct, InTurn, after, IsFinal, AnyOrderIsFinal, FinalIsOne, SettledOverFinal, SettlesAs, Stores, FinalHasTheStored}
+use Rattle.constants.specs.Changes.{DeclaresAll, ReorderingLeavesTable}
 use Rattle.constants.proofs.Tests.{mem-has, declares-mem, mem-declares, is-ready}
 use Rattle.constants.proofs.Eval.{eval-agree, store-own, store-other}
-use Rattle.constants.proofs.Carry.{carry}
+use Rattle.constants.proofs.Carry.{has-not, carry}
 use Rattle.constants.proofs.Order.{taken-declared, order-is-in-turn, in-turn-takes-reached, order-takes-reached, fresh}
 
 -- a name that is not taken keeps what it had
@@ -97,20 +98,33 @@ any-order-is-final w t cs distinct taken r = record {
   other = λ n h. stable taken t n (λ c m. h c (in-turn-takes-reached w cs distinct taken r c .0 m));
 }
 
-pub final-is-one : FinalIsOne
-final-is-one w t cs distinct one other f g n = go (declares (order w cs) n) refl
+-- two lists that declare the same, whatever their order, have one final table
+pub same-table : ReorderingLeavesTable
+same-table w t cs ds distinct ones all none-more one other f g n = go (declares (order w cs) n) refl
   where
+    alike :
+        (cs ds : List Constant) → Distinct ds → DeclaresAll ds cs → DeclaresAll cs ds →
+        (F G : Table) → IsFinal w t cs F → IsFinal w t ds G → {c : Constant} → Reached w cs c →
+        (d : Constant) × Reached w ds d × (d .name ≡ c .name) × (F (c .name) ≡ G (c .name))
+    alike cs ds ones all none-more F G f g r =
+        let y =
+        carry w t cs ds ones F G f g (λ c. Unit) (λ c d p m h. tt) (λ c p m. all c m) (λ c p m h e. has-not cs ds none-more m e) r tt in
+        (y .to, y .is-reached, y .same-name, y .has-value)
+
     go : (b : Bool) → declares (order w cs) n ≡ b → one n ≡ other n
     go true e =
         let x = declares-mem (order w cs) n e in
-        let y =
-        carry w t cs cs distinct one other f g (λ c. Unit) (λ c d p m h. tt) (λ c p m. (c, m, refl, refl)) (λ c p m h q. q)
-        (order-takes-reached w cs distinct (x .0) .0 (x .1)) tt in
-        sym (ap one (x .2)) ∙ y .has-value ∙ ap other (x .2)
-    go false e = f .other n no ∙ sym (g .other n no)
+        let y = alike cs ds ones all none-more one other f g (order-takes-reached w cs distinct (x .0) .0 (x .1)) in
+        sym (ap one (x .2)) ∙ y .3 ∙ ap other (x .2)
+    go false e =
+        f .other n out
+        ∙ sym (g .other n (λ d r q. let y = alike ds cs distinct none-more all other one g f r in out (y .0) (y .1) (y .2 ∙ q)))
       where
-        no : (c : Constant) → Reached w cs c → c .name ≡ n → ⊥
-        no c r q = true≢false (sym (mem-declares n (order-takes-reached w cs distinct c .1 r) q) ∙ e)
+        out : (c : Constant) → Reached w cs c → c .name ≡ n → ⊥
+        out c r q = true≢false (sym (mem-declares n (order-takes-reached w cs distinct c .1 r) q) ∙ e)
+
+pub final-is-one : FinalIsOne
+final-is-one w t cs distinct = same-table w t cs cs distinct distinct (λ c m. (c, m, refl, refl)) (λ c m. (c, m, refl, refl))
 
 pub settled-over-final : SettledOverFinal
 settled-over-final w t cs distinct taken r final f x = (
@@ -142,3 +156,30 @@ unfolding outcome
 settles-if w t cs distinct c o =
     settled-over-final w t cs distinct (order w cs) (order-is-in-turn w cs) (final w t cs) (is-final w t cs distinct)
     (record { constant = c; value = o })
+
+pub final-has-the-stored : FinalHasTheStored
+unfolding orElse
+final-has-the-stored w t cs distinct F f n = (λ z s. stored z s, λ unstored. go (declares (order w cs) n) refl unstored)
+  where
+    same : (c : Constant) → evalConstExpr F (c .expr) ≡ evalConstExpr (final w t cs) (c .expr)
+    same c = eval-agree F (final w t cs) (c .expr) (λ m k. final-is-one w t cs distinct F (final w t cs) f (is-final w t cs distinct) m)
+
+    own : (c : Constant) → Reached w cs c → c .name ≡ n → F n ≡ orElse (evalConstExpr (final w t cs) (c .expr)) (t n)
+    own c r q = sym (ap F q) ∙ f .own c r ∙ (λ i. orElse (same c i) (t (q i)))
+
+    stored : (z : ℤ) → Stores w t cs n z → F n ≡ some z
+    stored z s =
+        let x = settles-if w t cs distinct (s .0) (some z) .0 (s .2) in
+        own (s .0) (x .0) (s .1) ∙ ap (λ (o : Option ℤ). orElse o (t n)) (x .1)
+
+    at :
+        (c : Constant) → Reached w cs c → c .name ≡ n → ((z : ℤ) → Stores w t cs n z → ⊥) →
+        (o : Option ℤ) → evalConstExpr (final w t cs) (c .expr) ≡ o → F n ≡ t n
+    at c r q unstored none e = own c r q ∙ ap (λ (o : Option ℤ). orElse o (t n)) e
+    at c r q unstored (some z) e = absurd (unstored z (c, q, settles-if w t cs distinct c (some z) .1 (r, e)))
+
+    go : (b : Bool) → declares (order w cs) n ≡ b → ((z : ℤ) → Stores w t cs n z → ⊥) → F n ≡ t n
+    go true e unstored =
+        let x = declares-mem (order w cs) n e in
+        at (x .0) (order-takes-reached w cs distinct (x .0) .0 (x .1)) (x .2) unstored (evalConstExpr (final w t cs) (x .0 .expr)) refl
+    go false e unstored = f .other n (λ c r q. true≢false (sym (mem-declares n (order-takes-reached w cs distinct c .1 r) q) ∙ e))

@@ -1,9 +1,9 @@
 -- The order: it goes on until nothing is ready, and any such order takes exactly the reached constants.
 -- Assumes nothing.
 use Prim.Native.Nat.{ℕ, zero, suc, _≤_, _<_}
-use mathlib.Core.Bool.{Bool, true, false, cond, not, true≢false, false≢true}
+use mathlib.Core.Bool.{Bool, true, false, not, true≢false, false≢true}
 use mathlib.Core.List.{List, [], _∷_, List·Memᴰ, List·Memᴰ·head, List·Memᴰ·tail, List·Memᴰ·cases-cons, List·Memᴰ·not-nil}
-use mathlib.Core.List.{_++_, append-nil, Memᴰ·cast, Memᴰ·append-left}
+use mathlib.Core.List.{_++_, nil≢cons, head-eq-of-cons-eq, tail-eq-of-cons-eq, append-nil, Memᴰ·cast, Memᴰ·append-left}
 use mathlib.Core.Logic.{_⊎_, inl, inr, ⊎-elim}
 use mathlib.Core.Option.{Option, some, none}
 use mathlib.Core.Path.{_≡_, refl, sym, _∙_, ap, subst}
@@ -12,55 +12,13 @@ use lib.Dec.{eqb}
 use lib.ListN.{length}
 use borrow.Author.Tests.{eqb-true, eq-eqb}
 use Rattle.book.specs.Lists.{any, find, keep}
-use Rattle.book.proofs.Lists.{keep-length}
+use Rattle.book.proofs.Lists.{keep-length, keep-less}
+use Rattle.book.proofs.Members.{First, first-mem, Found, found}
+use Rattle.book.proofs.Trees.{not-so}
 use Rattle.constants.specs.Expr.{refs}
 use Rattle.constants.specs.Order.{Constant, Way, Reached, reached, has, admits, ready, orderFrom, order}
-use Rattle.constants.specs.Theory.{Distinct, InTurn, doneBy, OrderIsInTurn, InTurnTakesReached, ReadyIsReached, OrderTakesReached, ReachedIsLeast, Once, InTurnTakesOnce}
+use Rattle.constants.specs.Theory.{Distinct, InTurn, doneBy, OrderIsInTurn, InTurnTakesReached, ReadyIsReached, OrderTakesReached, OrderTakesEarliest, ReachedIsLeast, NoNameTwice, InTurnTakesOnce}
 use Rattle.constants.proofs.Tests.{has-mem, mem-has, declares-mem, mem-declares, is-ready, ready-if}
-
--- fewer pass a test that more fail
-module _ {A : Type 0} (p q : A → Bool) (h : (x : A) → q x ≡ true → p x ≡ true) where
-  step-fewer :
-      (x : A) (m n : List A) → length m ≤ length n → (a b : Bool) → (b ≡ true → a ≡ true) →
-      length (cond b (x ∷ m) m) ≤ length (cond a (x ∷ n) n)
-  step-fewer x m n less true true f = omega arith
-  step-fewer x m n less true false f = omega arith
-  step-fewer x m n less false true f = absurd (false≢true (f refl))
-  step-fewer x m n less false false f = less
-
-  fewer : (l : List A) → length (keep q l) ≤ length (keep p l)
-  unfolding keep
-  fewer [] = omega arith
-  fewer (x ∷ l) = step-fewer x (keep q l) (keep p l) (fewer l) (p x) (q x) (h x)
-
-  less : {x : A} {l : List A} → List·Memᴰ x l → p x ≡ true → q x ≡ false → length (keep q l) < length (keep p l)
-  unfolding keep
-  less (List·Memᴰ·head {x = y} {xs = l} e) t f = rw (sym (ap p e) ∙ t, sym (ap q e) ∙ f) (omega (arith, fewer l))
-  less (List·Memᴰ·tail {x = y} {xs = l} m) t f = go (p y) (q y) (h y) (less m t f)
-    where
-      go :
-          (a b : Bool) → (b ≡ true → a ≡ true) → length (keep q l) < length (keep p l) →
-          length (cond b (y ∷ keep q l) (keep q l)) < length (cond a (y ∷ keep p l) (keep p l))
-      go true true f s = omega arith
-      go true false f s = omega arith
-      go false true f s = absurd (false≢true (f refl))
-      go false false f s = s
-
--- the first that passes, or none
-module _ {A : Type 0} (test : A → Bool) where
-  abbrev Found : List A → Option A → Type 0
-  Found l none = (x : A) → List·Memᴰ x l → test x ≡ false
-  Found l (some x) = List·Memᴰ x l × (test x ≡ true)
-
-  found : (l : List A) → Found l (find test l)
-  unfolding find
-  found [] = λ x m. absurd (List·Memᴰ·not-nil m)
-  found (x ∷ l) = go (test x) refl (find test l) (found l)
-    where
-      go : (b : Bool) → test x ≡ b → (o : Option A) → Found l o → Found (x ∷ l) (elim b [ true ↦ some x | false ↦ o ])
-      go true e o f = (List·Memᴰ·head refl, e)
-      go false e none f = λ y m. ⊎-elim (λ q. ap test q ∙ e) (f y) (List·Memᴰ·cases-cons m)
-      go false e (some y) f = (List·Memᴰ·tail (f .0), f .1)
 
 -- how many are not done
 module _ (w : Way) (cs : List Constant) where
@@ -73,7 +31,7 @@ module _ (w : Way) (cs : List Constant) where
   one-done : (done : List ℕ) (c : Constant) → List·Memᴰ c cs → has (c .name) done ≡ false → left (c .name ∷ done) < left done
   unfolding any
   one-done done c m f =
-      less (undone done) (undone (c .name ∷ done)) later m (ap not f) (rw (eq-eqb (c .name) (c .name) refl, any) refl)
+      keep-less (undone done) (undone (c .name ∷ done)) later m (ap not f) (rw (eq-eqb (c .name) (c .name) refl, any) refl)
     where
       later : (x : Constant) → undone (c .name ∷ done) x ≡ true → undone done x ≡ true
       later x e = go (eqb (c .name) (x .name)) e
@@ -88,10 +46,6 @@ module _ (w : Way) (cs : List Constant) where
     where
       nobody : (c : Constant) → List·Memᴰ c cs → has (c .name) done ≡ false → ⊥
       nobody c m f = omega (arith, one-done done c m f, few)
-
-      not-so : (b : Bool) → (b ≡ true → ⊥) → b ≡ false
-      not-so false f = refl
-      not-so true f = absurd (f refl)
   from-in-turn (suc most) done few =
       go (find (ready w cs done) cs) (found (ready w cs done) cs) (λ c. from-in-turn most (c .name ∷ done))
     where
@@ -101,7 +55,8 @@ module _ (w : Way) (cs : List Constant) where
           InTurn w cs done (elim o [ none ↦ [] | some c ↦ c ∷ orderFrom most w cs (c .name ∷ done) ])
       go none f rest = f
       go (some c) f rest =
-          (f .0, f .1, rest c (omega (arith, one-done done c (f .0) (is-ready w cs done c (f .1) .fresh), few)))
+          let m = first-mem f in
+          (m, f .passes, rest c (omega (arith, one-done done c m (is-ready w cs done c (f .passes) .fresh), few)))
 
 pub order-is-in-turn : OrderIsInTurn
 unfolding order
@@ -138,8 +93,17 @@ done-taken (c ∷ taken) done n h =
     (λ g. ⊎-elim (λ q. inl (c, List·Memᴰ·head refl, q)) (λ k. inr k) (has-first n (c .name) done g))
     (done-taken taken (c .name ∷ done) n h)
 
+-- the parts of being reached
+pub reached-declared : {w : Way} {cs : List Constant} {c : Constant} → Reached w cs c → List·Memᴰ c cs
+reached-declared (reached m a named) = m
+
 pub reached-admitted : {w : Way} {cs : List Constant} {c : Constant} → Reached w cs c → admits w cs c ≡ true
 reached-admitted (reached m a named) = a
+
+pub reached-names :
+    {w : Way} {cs : List Constant} {c : Constant} → Reached w cs c →
+    (d : Constant) → List·Memᴰ d cs → has (d .name) (refs (c .expr)) ≡ true → Reached w cs d
+reached-names (reached m a named) = named
 
 module _ (w : Way) (cs : List Constant) where
   pub taken-declared : (taken : List Constant) (done : List ℕ) → InTurn w cs done taken → (c : Constant) → List·Memᴰ c taken → List·Memᴰ c cs
@@ -235,15 +199,46 @@ ready-is-reached w cs distinct taken rest t c m = (
         λ k. true≢false (sym (taken-done [] k) ∙ r .fresh),
         λ d k h. is-taken w cs distinct taken rest t d k (r .behind (d .name) h (mem-declares (d .name) k refl)),
       ),
-  λ h. is-ready-then w cs distinct taken rest t c (h .0) (untaken (has (c .name) (doneBy taken [])) refl (h .1)) (h .2),
+  λ h.
+      is-ready-then w cs distinct taken rest t c (h .0)
+      (not-so _ (λ e. h .1 (is-taken w cs distinct taken rest t c m e)))
+      (h .2),
 )
-  where
-    untaken : (b : Bool) → has (c .name) (doneBy taken []) ≡ b → (List·Memᴰ c taken → ⊥) → b ≡ false
-    untaken false e out = refl
-    untaken true e out = absurd (out (is-taken w cs distinct taken rest t c m e))
 
 pub order-takes-reached : OrderTakesReached
 order-takes-reached w cs distinct = in-turn-takes-reached w cs distinct (order w cs) (order-is-in-turn w cs)
+
+-- what is taken next is the first that is ready
+from-earliest :
+    (w : Way) (cs : List Constant) (most : ℕ) (taken rest : List Constant) (c : Constant) (done : List ℕ) →
+    orderFrom most w cs done ≡ taken ++ (c ∷ rest) → First (ready w cs (doneBy taken done)) cs c
+unfolding orderFrom
+from-earliest w cs zero [] rest c done e = absurd (nil≢cons e)
+from-earliest w cs zero (d ∷ taken) rest c done e = absurd (nil≢cons e)
+from-earliest w cs (suc most) [] rest c done e = go (find (ready w cs done) cs) (found (ready w cs done) cs) e
+  where
+    go :
+        (o : Option Constant) → Found (ready w cs done) cs o →
+        elim o [ none ↦ [] | some d ↦ d ∷ orderFrom most w cs (d .name ∷ done) ] ≡ c ∷ rest → First (ready w cs done) cs c
+    go none f e = absurd (nil≢cons e)
+    go (some d) f e = subst (First (ready w cs done) cs) (head-eq-of-cons-eq e) f
+from-earliest w cs (suc most) (d ∷ taken) rest c done e =
+    go (find (ready w cs done) cs) e (λ n. from-earliest w cs most taken rest c (n ∷ done))
+  where
+    go :
+        (o : Option Constant) →
+        elim o [ none ↦ [] | some x ↦ x ∷ orderFrom most w cs (x .name ∷ done) ] ≡ d ∷ (taken ++ (c ∷ rest)) →
+        ((n : ℕ) → orderFrom most w cs (n ∷ done) ≡ taken ++ (c ∷ rest) → First (ready w cs (doneBy taken (n ∷ done))) cs c) →
+        First (ready w cs (doneBy taken (d .name ∷ done))) cs c
+    go none e next = absurd (nil≢cons e)
+    go (some x) e next =
+        subst (λ (y : Constant). First (ready w cs (doneBy taken (y .name ∷ done))) cs c) (head-eq-of-cons-eq e) (next (x .name) (tail-eq-of-cons-eq e))
+
+pub order-takes-earliest : OrderTakesEarliest
+unfolding order
+order-takes-earliest w cs taken rest c e =
+    let f = from-earliest w cs (length cs) taken rest c [] e in
+    (f .before, f .behind, f .there, f .none-before)
 
 pub reached-is-least : ReachedIsLeast
 reached-is-least w cs P step c (reached m a named) = step c m a (λ d k h. reached-is-least w cs P step d (named d k h))
@@ -262,7 +257,7 @@ fresh w cs (c ∷ taken) done r x m h =
 pub in-turn-takes-once : InTurnTakesOnce
 in-turn-takes-once w cs taken r = go taken [] r
   where
-    go : (taken : List Constant) (done : List ℕ) → InTurn w cs done taken → Once taken
+    go : (taken : List Constant) (done : List ℕ) → InTurn w cs done taken → NoNameTwice taken
     go [] done r = tt
     go (c ∷ taken) done r =
         (λ d m e. fresh w cs taken (c .name ∷ done) (r .2) d m (mem-has (List·Memᴰ·head e)), go taken (c .name ∷ done) (r .2))

@@ -3,27 +3,22 @@
 use Prim.Native.Nat.{ℕ}
 use mathlib.Core.Bool.{Bool, true, false, cond}
 use mathlib.Core.List.{List, List·Memᴰ}
-use mathlib.Core.Option.{Option, some, none, Option·none-ne-some}
+use mathlib.Core.Option.{some, none, Option·none-ne-some}
 use mathlib.Core.Path.{_≡_, refl, sym, _∙_, ap, subst}
 use lib.IntN.{ℤ}
 use Rattle.constants.specs.Expr.{refs}
 use Rattle.constants.specs.Eval.{Table, empty, evalConstExpr}
 use Rattle.constants.specs.Order.{Constant, Way, Reached, reached, has, declares}
 use Rattle.constants.specs.Stored.{Stored, stored}
-use Rattle.constants.specs.Theory.{Distinct, orElse, Stores, StoresTheStored}
+use Rattle.constants.specs.Theory.{Distinct, Stores, StoresTheStored}
 use Rattle.constants.proofs.Tests.{mem-has, declares-mem}
-use Rattle.constants.proofs.Eval.{eval-agree, eval-more}
+use Rattle.constants.proofs.Eval.{eval-agree, eval-more, or-else-none}
 use Rattle.constants.proofs.Carry.{undeclared}
-use Rattle.constants.proofs.Final.{final, is-final, settles-if}
+use Rattle.constants.proofs.Final.{final, is-final, settles-if, final-has-the-stored}
 
 -- a table, of the names that an expression names only
 abbrev restricted : Table → List ℕ → Table
 restricted t ns n = cond (has n ns) (t n) none
-
-or-else-none : (o : Option ℤ) → orElse o none ≡ o
-unfolding orElse
-or-else-none none = refl
-or-else-none (some z) = refl
 
 module _ (w : Way) (cs : List Constant) (distinct : Distinct cs) where
   abbrev F : Table
@@ -60,13 +55,8 @@ module _ (w : Way) (cs : List Constant) (distinct : Distinct cs) where
     c,
     e,
     settles-if w empty cs distinct c (some z) .1
-        (r, eval-more values F (c .expr) z (λ m y h. in-final m y (is-settled (over m y h))) q),
+        (r, eval-more values F (c .expr) z (λ m y h. final-has-the-stored w empty cs distinct F (is-final w empty cs distinct) m .0 y (is-settled (over m y h))) q),
   )
-    where
-      in-final : (m : ℕ) (y : ℤ) → Stores w empty cs m y → F m ≡ some y
-      in-final m y s =
-          let x = settles-if w empty cs distinct (s .0) (some y) .0 (s .2) in
-          sym (ap F (s .1)) ∙ own (s .0) (x .0) ∙ x .1
 
 pub stores-the-stored : StoresTheStored
 stores-the-stored w cs distinct n z = (

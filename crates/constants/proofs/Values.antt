@@ -1,37 +1,34 @@
--- Values of constants are i64s, so that a word holds them.
+-- Values of constants are i64s.
 -- Assumes nothing.
-use Prim.Native.Nat.{ℕ, zero, suc, _-_, _^_, _<_}
-use mathlib.Core.Bool.{Bool, true, false, _&&_}
+use Prim.Native.Nat.{ℕ, zero, suc, _^_, _<_}
+use mathlib.Core.Bool.{Bool, true, false, cond, _&&_}
 use mathlib.Core.List.{List, [], _∷_}
 use mathlib.Core.Option.{Option, some, none}
-use mathlib.Core.Path.{_≡_, refl}
-use native.Mathlib.Omega.{arith}
-use lib.Dec.{eqb, leb, lit<}
-use lib.IntN.{ℤ, pos, negsuc, natAbs}
-use lib.Signed.{leZ}
-use borrow.Author.Tests.{leb-true}
+use mathlib.Core.Path.{_≡_, refl, subst}
+use lib.Dec.{eqb, lit<}
+use lib.IntN.{ℤ, natAbs}
+use lib.Signed.{leZ, leZ-yes}
 use Rattle.record.specs.declared.Record.{Record}
 use Rattle.record.specs.Layout.{Within}
-use Rattle.arith.specs.Word.{MIN, MAX, word}
+use Rattle.arith.specs.Word.{MIN, MAX}
 use Rattle.arith.specs.Checked.{fitting, checkedAdd, checkedSub, checkedMul, checkedDiv}
-use Rattle.arith.proofs.Words.{word-and-back, cast-signed}
-use Rattle.book.specs.Lists.{All, find}
+use Rattle.arith.proofs.Words.{signed-is-i64, cast-signed}
+use Rattle.book.specs.Lists.{All}
 use Rattle.book.specs.Faults.{recordOf, isKind}
 use Rattle.book.specs.Outline.{Book, _!_, numbersOf}
-use Rattle.book.proofs.Lists.{If, either, all-map, if-find}
+use Rattle.book.proofs.Lists.{either, all-map}
+use Rattle.book.proofs.Members.{of-all, all-of}
 use Rattle.book.proofs.Records.{record-within}
 use Rattle.constants.specs.Expr.{Literal, int, uint, float, hex, bool, literalOf}
 use Rattle.constants.specs.Expr.{Op, add, sub, mul, div, eq, ne, lt, le, gt, ge, opOf}
 use Rattle.constants.specs.Expr.{Expr, literal, reference, operation, exprOf, exprAt}
 use Rattle.constants.specs.Eval.{Table, empty, store, literalValue, apply, applyTo, evalConstExpr}
-use Rattle.constants.specs.Order.{Constant, Way, each, ready, orderFrom, order, settle, outcome}
+use Rattle.constants.specs.Order.{Constant, each, order, settle, outcome}
 use Rattle.constants.specs.Declared.{constantAt, constants, settled}
+use Rattle.constants.specs.Values.{IsI64, SettledAreI64}
+use Rattle.constants.proofs.Order.{taken-declared, order-is-in-turn}
 
--- a value, if there is one, is held by a word
-abbrev pub IsWord : Option ℤ → Type 0
-IsWord o = If (λ z. word z < 2 ^ 64) o
-
--- literals are
+-- literals have 64 bits
 abbrev Worded : Expr → Type 0
 Worded (literal l v) = v < 2 ^ 64
 Worded (reference n) = Unit
@@ -56,85 +53,76 @@ unfolding exprAt
 expr-at zero rs h n = lit< tt
 expr-at (suc levels) rs h n = expr-of (exprAt levels rs) (expr-at levels rs h) (recordOf rs n) (record-within rs n h)
 
--- what an operation gives
-fitting-word : (z : ℤ) → IsWord (fitting z)
-unfolding fitting word
-fitting-word (pos n) = go (leb n (2 ^ 63 - 1)) refl
+-- what an operation and a literal give
+fitting-i64 : (z : ℤ) → IsI64 (fitting z)
+unfolding fitting
+fitting-i64 z = go (leZ MIN z) (leZ z MAX) refl refl
   where
-    go : (b : Bool) → leb n (2 ^ 63 - 1) ≡ b → IsWord (fitting (pos n))
-    go true e = rw e (omega (arith, leb-true))
-    go false e = rw e tt
-fitting-word (negsuc n) = either IsWord (leZ MIN (negsuc n) && leZ (negsuc n) MAX) {x = some (negsuc n)} {y = none} (omega arith) tt
+    go : (a b : Bool) → leZ MIN z ≡ a → leZ z MAX ≡ b → IsI64 (cond (a && b) (some z) none)
+    go true true p q = (leZ-yes (rw p tt), leZ-yes (rw q tt))
+    go true false p q = tt
+    go false b p q = tt
 
-literal-word : (l : Literal) (v : ℕ) → v < 2 ^ 64 → IsWord (literalValue l v)
+literal-i64 : (l : Literal) (v : ℕ) → v < 2 ^ 64 → IsI64 (literalValue l v)
 unfolding literalValue
-literal-word int v h = rw (word-and-back v h) h
-literal-word uint v h = rw (← cast-signed v h, word-and-back v h) h
-literal-word hex v h = rw (← cast-signed v h, word-and-back v h) h
-literal-word float v h = tt
-literal-word bool v h = tt
+literal-i64 int v h = signed-is-i64 v h
+literal-i64 uint v h = subst (λ (z : ℤ). IsI64 (some z)) (cast-signed v h) (signed-is-i64 v h)
+literal-i64 hex v h = subst (λ (z : ℤ). IsI64 (some z)) (cast-signed v h) (signed-is-i64 v h)
+literal-i64 float v h = tt
+literal-i64 bool v h = tt
 
-apply-word : (o : Op) (x y : ℤ) → IsWord (apply o x y)
+apply-i64 : (o : Op) (x y : ℤ) → IsI64 (apply o x y)
 unfolding apply checkedAdd checkedSub checkedMul checkedDiv
-apply-word add x y = fitting-word _
-apply-word sub x y = fitting-word _
-apply-word mul x y = fitting-word _
-apply-word div x y = either IsWord (eqb (natAbs y) 0) tt (fitting-word _)
-apply-word eq x y = tt
-apply-word ne x y = tt
-apply-word lt x y = tt
-apply-word le x y = tt
-apply-word gt x y = tt
-apply-word ge x y = tt
+apply-i64 add x y = fitting-i64 _
+apply-i64 sub x y = fitting-i64 _
+apply-i64 mul x y = fitting-i64 _
+apply-i64 div x y = either IsI64 (eqb (natAbs y) 0) tt (fitting-i64 _)
+apply-i64 eq x y = tt
+apply-i64 ne x y = tt
+apply-i64 lt x y = tt
+apply-i64 le x y = tt
+apply-i64 gt x y = tt
+apply-i64 ge x y = tt
 
-apply-to-word : (o : Op) (x y : Option ℤ) → IsWord (applyTo o x y)
+apply-to-i64 : (o : Op) (x y : Option ℤ) → IsI64 (applyTo o x y)
 unfolding applyTo
-apply-to-word o none y = tt
-apply-to-word o (some x) none = tt
-apply-to-word o (some x) (some y) = apply-word o x y
+apply-to-i64 o none y = tt
+apply-to-i64 o (some x) none = tt
+apply-to-i64 o (some x) (some y) = apply-i64 o x y
 
 -- an expression over stored values, and the table with one more
-module _ (t : Table) (h : (n : ℕ) → IsWord (t n)) where
-  eval-word : (e : Expr) → Worded e → IsWord (evalConstExpr t e)
+module _ (t : Table) (h : (n : ℕ) → IsI64 (t n)) where
+  eval-i64 : (e : Expr) → Worded e → IsI64 (evalConstExpr t e)
   unfolding evalConstExpr
-  eval-word (literal l v) w = literal-word l v w
-  eval-word (reference n) w = h n
-  eval-word (operation o l r) w = apply-to-word o (evalConstExpr t l) (evalConstExpr t r)
+  eval-i64 (literal l v) w = literal-i64 l v w
+  eval-i64 (reference n) w = h n
+  eval-i64 (operation o l r) w = apply-to-i64 o (evalConstExpr t l) (evalConstExpr t r)
 
-  store-word : (name : ℕ) (o : Option ℤ) → IsWord o → (m : ℕ) → IsWord (store t name o m)
+  store-i64 : (name : ℕ) (o : Option ℤ) → IsI64 o → (m : ℕ) → IsI64 (store t name o m)
   unfolding store
-  store-word name none w m = h m
-  store-word name (some z) w m = either IsWord (eqb m name) w (h m)
+  store-i64 name none w m = h m
+  store-i64 name (some z) w m = either IsI64 (eqb m name) w (h m)
 
-settle-word :
-    (t : Table) → ((n : ℕ) → IsWord (t n)) → (cs : List Constant) → All (λ c. Worded (c .expr)) cs →
-    All (λ x. IsWord (x .value)) (settle t cs)
+settle-i64 :
+    (t : Table) → ((n : ℕ) → IsI64 (t n)) → (cs : List Constant) → All (λ c. Worded (c .expr)) cs →
+    All (λ x. IsI64 (x .value)) (settle t cs)
 unfolding settle
-settle-word t h [] w = tt
-settle-word t h (c ∷ cs) w =
-    let v = eval-word t h (c .expr) (w .0) in
-    (v, settle-word (store t (c .name) (evalConstExpr t (c .expr))) (store-word t h (c .name) (evalConstExpr t (c .expr)) v) cs (w .1))
+settle-i64 t h [] w = tt
+settle-i64 t h (c ∷ cs) w =
+    let v = eval-i64 t h (c .expr) (w .0) in
+    (v, settle-i64 (store t (c .name) (evalConstExpr t (c .expr))) (store-i64 t h (c .name) (evalConstExpr t (c .expr)) v) cs (w .1))
 
--- the order holds declared constants only
-all-order : (P : Constant → Type 0) (most : ℕ) (w : Way) (cs : List Constant) (done : List ℕ) → All P cs → All P (orderFrom most w cs done)
-unfolding orderFrom
-all-order P zero w cs done h = tt
-all-order P (suc most) w cs done h =
-    go (find (ready w cs done) cs) (if-find P (ready w cs done) cs h) (λ c. all-order P most w cs (c .name ∷ done) h)
-  where
-    go :
-        (o : Option Constant) → If P o → ((c : Constant) → All P (orderFrom most w cs (c .name ∷ done))) →
-        All P (elim o [ none ↦ [] | some c ↦ c ∷ orderFrom most w cs (c .name ∷ done) ])
-    go none p q = tt
-    go (some c) p q = (p, q c)
-
--- and that of a book those at its records
+-- the order of a book's constants holds those at its records
 pub all-ordered : (P : Constant → Type 0) (book : Book) → ((n : ℕ) → P (constantAt book n)) → All P (order each (constants book))
-unfolding order constants
-all-ordered P book h = all-order P _ each (constants book) [] (all-map P (constantAt book) h (numbersOf (isKind 24) book))
+unfolding constants
+all-ordered P book h =
+    let cs = constants book in
+    all-of P (order each cs)
+    (λ c m. of-all P cs (all-map P (constantAt book) h (numbersOf (isKind 24) book)) c
+    (taken-declared each cs (order each cs) [] (order-is-in-turn each cs) c m))
 
-pub settled-word : (book : Book) → All Within (book .records) → All (λ x. IsWord (x .value)) (settled book)
+pub settled-are-i64 : SettledAreI64
 unfolding settled outcome constantAt
-settled-word book h =
-    settle-word empty (λ n. tt) _
+settled-are-i64 book h =
+    settle-i64 empty (λ n. tt) _
     (all-ordered (λ c. Worded (c .expr)) book (λ n. expr-at 64 (book .records) h ((book ! n) .c)))

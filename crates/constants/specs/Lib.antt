@@ -6,5 +6,6 @@ pub mod Stored
 pub mod Theory
 pub mod Changes
 pub mod Declared
+pub mod Values
 pub mod Whole
 pub mod SameTrees

@@ -19,7 +19,7 @@ pub record Constant : Type 0 where
   pub name : ℕ
   pub expr : Expr
 
--- how a name counts that an expression names more than once. Document 01 says `each` time; `once` is for a book that asks for it.
+-- how a name counts that an expression names more than once. Document 01 says `each` time; `once` is for a second way to lower.
 pub data Way : Type 0 where
   each once : Way
 

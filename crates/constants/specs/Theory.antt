@@ -5,7 +5,7 @@ use Prim.Native.Nat.{ℕ}
 use mathlib.Core.Bool.{true, false}
 use mathlib.Core.List.{List, [], _∷_, _++_, List·Memᴰ}
 use mathlib.Core.Logic.{_↔_}
-use mathlib.Core.Option.{Option, some, none}
+use mathlib.Core.Option.{Option, some, orElse}
 use mathlib.Core.Path.{_≡_}
 use lib.IntN.{ℤ}
 use Rattle.constants.specs.Eval.{Table, empty, store, evalConstExpr}
@@ -13,13 +13,12 @@ use Rattle.constants.specs.Expr.{refs}
 use Rattle.constants.specs.Order.{Constant, Way, Settled, Reached, has, admits, ready, order, settle, outcome}
 use Rattle.constants.specs.Stored.{Stored}
 
--- a name is declared by one constant
+-- a name is declared by one constant, which may stand in the list more than once
 abbrev pub Distinct : List Constant → Type 0
 Distinct cs = (c d : Constant) → List·Memᴰ c cs → List·Memᴰ d cs → c .name ≡ d .name → c ≡ d
 
--- The order. `taken` is an order in which the constants may be done that are left when `done` are done: each is ready in its turn, and behind the
--- last none is. The original takes one of these, as its hash map has it; `order` always takes the
--- earliest.
+-- The order. `taken` is an order in which what is left may be done when `done` is done: each constant is ready in its turn, and behind the last none
+-- is. The original takes one of these, as its hash map has it; `order` always takes the earliest.
 abbrev pub InTurn : Way → List Constant → List ℕ → List Constant → Type 0
 InTurn w cs done [] = (c : Constant) → List·Memᴰ c cs → ready w cs done c ≡ false
 InTurn w cs done (c ∷ taken) = List·Memᴰ c cs × (ready w cs done c ≡ true) × InTurn w cs (c .name ∷ done) taken
@@ -61,23 +60,27 @@ ReadyIsReached =
     × (List·Memᴰ c taken → ⊥)
     × ((d : Constant) → List·Memᴰ d cs → has (d .name) (refs (c .expr)) ≡ true → List·Memᴰ d taken))
 
+-- and the earliest of these is taken: when c is taken behind `taken`, nothing that stands before c is ready
+abbrev pub OrderTakesEarliest : Type 0
+OrderTakesEarliest =
+    (w : Way) (cs taken rest : List Constant) (c : Constant) → order w cs ≡ taken ++ (c ∷ rest) →
+    (before : List Constant)
+    × (behind : List Constant)
+    × (cs ≡ before ++ (c ∷ behind))
+    × ((d : Constant) → List·Memᴰ d before → ready w cs (doneBy taken []) d ≡ false)
+
 -- no name is taken twice
-abbrev pub Once : List Constant → Type 0
-Once [] = Unit
-Once (c ∷ cs) = ((d : Constant) → List·Memᴰ d cs → d .name ≡ c .name → ⊥) × Once cs
+abbrev pub NoNameTwice : List Constant → Type 0
+NoNameTwice [] = Unit
+NoNameTwice (c ∷ cs) = ((d : Constant) → List·Memᴰ d cs → d .name ≡ c .name → ⊥) × NoNameTwice cs
 
 abbrev pub InTurnTakesOnce : Type 0
-InTurnTakesOnce = (w : Way) (cs taken : List Constant) → InTurn w cs [] taken → Once taken
+InTurnTakesOnce = (w : Way) (cs taken : List Constant) → InTurn w cs [] taken → NoNameTwice taken
 
 -- The values. The table behind all that were settled, one after the other
 unfoldable pub after : Table → List Constant → Table
 after t [] = t
 after t (c ∷ cs) = after (store t (c .name) (evalConstExpr t (c .expr))) cs
-
--- a value, or else what there was beforehand
-unfoldable pub orElse : Option ℤ → Option ℤ → Option ℤ
-orElse (some z) before = some z
-orElse none before = before
 
 -- what the final table is, without an order: a reached constant has the value of its expression over this very table, or else what it had
 -- beforehand; every other name has what it had
@@ -112,6 +115,12 @@ Settles w t cs n o = (c : Constant) × (c .name ≡ n) × SettlesAs w t cs c o
 
 abbrev pub Stores : Way → Table → List Constant → ℕ → ℤ → Type 0
 Stores w t cs n z = Settles w t cs n (some z)
+
+-- the final table has what is stored, and for a name that nothing is stored for what it had beforehand
+abbrev pub FinalHasTheStored : Type 0
+FinalHasTheStored =
+    (w : Way) (t : Table) (cs : List Constant) → Distinct cs → (final : Table) → IsFinal w t cs final → (n : ℕ) →
+    ((z : ℤ) → Stores w t cs n z → final n ≡ some z) × (((z : ℤ) → Stores w t cs n z → ⊥) → final n ≡ t n)
 
 -- that is document 01's "stored", where no constant has a value beforehand
 abbrev pub StoresTheStored : Type 0

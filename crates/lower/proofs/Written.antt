@@ -15,7 +15,8 @@ use Rattle.book.specs.Outline.{Book, read}
 use Rattle.book.specs.Lists.{All, keep}
 use Rattle.book.proofs.Records.{records-within, few-records}
 use Rattle.constants.specs.Declared.{settled}
-use Rattle.constants.proofs.Values.{IsWord, settled-word}
+use Rattle.constants.specs.Values.{IsI64}
+use Rattle.constants.proofs.Values.{settled-are-i64}
 use Rattle.constants.proofs.Named.{settled-named}
 use Rattle.types.specs.Lowering.{start}
 use Rattle.types.specs.Events.{Event, lowers, resolves, tells, writes, events, written, told}
@@ -38,7 +39,7 @@ use Rattle.lower.specs.Written.{NoStepBeyond, WrittenWithin, ReachedAreW
 -- their widths, and so are the numbers of results.
 all-fine :
     (W : Type 0) (book : Book) →
-    (W → All Within (book .records) × All (λ c. IsWord (c .value)) (settled book) × Sound (registerDeclarations book) 0) →
+    (W → All Within (book .records) × All (λ c. IsI64 (c .value)) (settled book) × Sound (registerDeclarations book) 0) →
     ((m : ℕ) → suc m ≤ length (written (events (lowerRecords (settled book) book) 0)) → W → m < 2 ^ 16) →
     All (Fine W ⊥) (events (lowerRecords (settled book) book) 0)
 unfolding lowerRecords
@@ -100,9 +101,9 @@ written-within book most a s each e few h =
     (all-fine Unit (read book) (λ w. given) (λ m l w. omega (arith, ap (λ (rs : List Record). length rs) (x .results)))) in
     (rw (x .results) (y .0), rw (x .diagnostics) (y .1))
   where
-    given : All Within (records book) × All (λ c. IsWord (c .value)) (settled (read book)) × Sound (registerDeclarations (read book)) 0
+    given : All Within (records book) × All (λ c. IsI64 (c .value)) (settled (read book)) × Sound (registerDeclarations (read book)) 0
     given = (
       records-within book each,
-      settled-word (read book) (records-within book each),
+      settled-are-i64 (read book) (records-within book each),
       start-sound (read book) (omega (arith, few-records book each e)),
     )

@@ -10,7 +10,7 @@ use mathlib.Core.Path.{_≡_}
 use lib.IntN.{ℤ}
 use Rattle.record.specs.declared.Record.{Record}
 use Rattle.record.specs.Bytes.{AreBytes}
-use Rattle.arith.specs.Word.{word}
+use Rattle.arith.specs.Word.{signed}
 use Rattle.book.specs.Outline.{read}
 use Rattle.constants.specs.Order.{Constant, each, declares}
 use Rattle.constants.specs.Declared.{constants}
@@ -25,14 +25,15 @@ use Rattle.lower.specs.Laws.{IsAccepted, firstRecords}
 abbrev pub AnyLowering : Type 0
 AnyLowering = List ℕ → List ℕ → List ℕ → Lowered
 
--- the name n and the value v "stand as a and v of the 41s marked stored among the results counted": read from the reply and the result slice
-pub record Stands (x : Lowered) (n v : ℕ) : Type 0 where
+-- the name n and the value z "stand as a and v of the 41s marked stored among the results counted": read from the reply and the result slice, v
+-- as an i64
+pub record Stands (x : Lowered) (n : ℕ) (z : ℤ) : Type 0 where
   pub reply : IsAccepted x
-  pub constant : Record
-  pub counted : List·Memᴰ constant (firstRecords (reply .results) (x .results))
-  pub marked : isStored constant ≡ true
-  pub name : constant .a ≡ n
-  pub value : constant .v ≡ v
+  pub entry : Record
+  pub counted : List·Memᴰ entry (firstRecords (reply .results) (x .results))
+  pub marked : isStored entry ≡ true
+  pub name : entry .a ≡ n
+  pub value : signed (entry .v) ≡ z
 
 -- the constant n is one "that demand 2 says is stored" for a book, with the value z, "no constant having a value beforehand"
 abbrev pub StoredFor : List ℕ → ℕ → ℤ → Type 0
@@ -56,23 +57,23 @@ AddsNoneTo first second =
 -- of one accepted book
 pub record OfEach (book : List ℕ) (x : Lowered) : Type 0 where
   -- "in each, exactly the stored names and values stand as a and v of the 41s marked stored among the results counted"
-  pub exactly : (n v : ℕ) → Stands x n v ↔ ((z : ℤ) × (word z ≡ v) × StoredFor book n z)
+  pub exactly : (n : ℕ) (z : ℤ) → Stands x n z ↔ StoredFor book n z
   -- "no accepted book itself stores a constant that lies on a ring of its references or leads into one"
   pub no-ring :
       (c : Constant) →
       List·Memᴰ c (constants (read book)) →
       LiesOnRing (constants (read book)) c ⊎ LeadsIntoRing (constants (read book)) c →
-      (v : ℕ) →
-      Stands x (c .name) v →
+      (z : ℤ) →
+      Stands x (c .name) z →
       ⊥
 
 -- of two accepted books, "where the second declares every constant of the first with the same expression"
 pub record OfBoth (first second : List ℕ) (x y : Lowered) : Type 0 where
   -- "every constant that demand 2 says is stored for the first is stored for the second, with the same value"
   pub kept :
-      (n : ℕ) (z : ℤ) → StoredFor first n z → StoredFor second n z × Stands x n (word z) × Stands y n (word z)
+      (n : ℕ) (z : ℤ) → StoredFor first n z → StoredFor second n z × Stands x n z × Stands y n z
   -- "Where none is added, the two store exactly the same names with the same values."
-  pub same : AddsNoneTo first second → (n v : ℕ) → Stands x n v ↔ Stands y n v
+  pub same : AddsNoneTo first second → (n : ℕ) (z : ℤ) → Stands x n z ↔ Stands y n z
 
 -- "Take any two books, both accepted [..]. Whatever constants the second adds, in whatever order its constants stand, and whatever else in it
 -- differs"
@@ -84,10 +85,10 @@ pub record Demand3 (lower : AnyLowering) : Type 0 where
       OfEach book (lower book results diagnostics)
   pub of-both :
       (first results diagnostics : List ℕ) →
-      (second others notes : List ℕ) →
+      (second results′ diagnostics′ : List ℕ) →
       AreBytes first →
       AreBytes second →
       IsAccepted (lower first results diagnostics) →
-      IsAccepted (lower second others notes) →
+      IsAccepted (lower second results′ diagnostics′) →
       DeclaresAllOf first second →
-      OfBoth first second (lower first results diagnostics) (lower second others notes)
+      OfBoth first second (lower first results diagnostics) (lower second results′ diagnostics′)

@@ -7,10 +7,9 @@ use mathlib.Core.Logic.{_↔_}
 use mathlib.Core.Path.{_≡_}
 use lib.IntN.{ℤ}
 use Rattle.record.specs.Bytes.{AreBytes}
-use Rattle.arith.specs.Word.{word}
 use Rattle.book.specs.Outline.{read}
 use Rattle.constants.specs.Eval.{empty}
-use Rattle.constants.specs.Order.{Constant, each}
+use Rattle.constants.specs.Order.{each}
 use Rattle.constants.specs.Declared.{constants, settled}
 use Rattle.constants.specs.Theory.{Stores}
 use Rattle.bodies.specs.Constant.{constantsIn, constantOf}
@@ -26,15 +25,11 @@ ReachedAreTold =
     (lowerBook book results diagnostics) .reply ≡ accepted r d c →
     constantsIn (firstRecords r ((lowerBook book results diagnostics) .results)) ≡ map constantOf (settled (read book))
 
--- some constants store a value with the word v under the name n, no constant having a value beforehand
-abbrev pub StoresWord : List Constant → ℕ → ℕ → Type 0
-StoresWord cs n v = (z : ℤ) × (word z ≡ v) × Stores each empty cs n z
-
 -- the names and values that stand in the slice are those that are stored
 abbrev pub StoredAreTold : Type 0
 StoredAreTold =
     (book results diagnostics : List ℕ) →
     AreBytes book →
     IsAccepted (lowerBook book results diagnostics) →
-    (n v : ℕ) →
-    Stands (lowerBook book results diagnostics) n v ↔ StoresWord (constants (read book)) n v
+    (n : ℕ) (z : ℤ) →
+    Stands (lowerBook book results diagnostics) n z ↔ Stores each empty (constants (read book)) n z

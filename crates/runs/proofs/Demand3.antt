@@ -2,10 +2,10 @@
 -- Assumes nothing.
 use Prim.Native.Nat.{ℕ}
 use mathlib.Core.Bool.{Bool, true, false, _&&_, true≢false, false≢true}
-use mathlib.Core.List.{List, [], _∷_, List·Memᴰ, List·Memᴰ·head, List·Memᴰ·tail, List·Memᴰ·not-nil, List·Memᴰ·cases-cons}
-use mathlib.Core.Logic.{inl, inr, ⊎-elim}
+use mathlib.Core.List.{List, [], _∷_, List·Memᴰ, List·Memᴰ·head, List·Memᴰ·tail}
+use mathlib.Core.Logic.{inl, inr}
 use mathlib.Core.Option.{none}
-use mathlib.Core.Path.{_≡_, refl, sym, _∙_, subst}
+use mathlib.Core.Path.{_≡_, refl, sym, _∙_}
 use native.Mathlib.Omega.{arith}
 use borrow.Author.Tests.{leb-false, eq-eqb}
 use lib.Dec.{leb, eqb}
@@ -13,14 +13,13 @@ use lib.IntN.{ℤ, pos}
 use lib.ListN.{replicate}
 use Rattle.record.specs.declared.Record.{Record}
 use Rattle.record.specs.Bytes.{AreBytes}
-use Rattle.arith.specs.Word.{word}
-use Rattle.book.specs.Lists.{All, any}
+use Rattle.book.specs.Lists.{any}
 use Rattle.book.proofs.Lists.{all-at}
-use Rattle.book.proofs.Members.{mem-any}
+use Rattle.book.proofs.Members.{mem-any, of-all}
 use Rattle.book.proofs.Trees.{none-passes}
 use Rattle.book.specs.Refusal.{firstRefusal}
 use Rattle.book.specs.Outline.{read}
-use Rattle.constants.specs.Expr.{int, add, mul, literal, reference, operation}
+use Rattle.constants.specs.Expr.{int, mul, literal, reference, operation}
 use Rattle.constants.specs.Order.{Constant, each, declares, admits, Reached, reached}
 use Rattle.constants.specs.Stored.{Stored, stored}
 use Rattle.constants.specs.Leads.{LiesOnRing, LeadsIntoRing, names, further}
@@ -39,16 +38,10 @@ use Rattle.runs.specs.Compute.{computed}
 use Rattle.runs.specs.Known.{N1, N2, N3}
 use Rattle.runs.specs.Slips.{N4}
 use Rattle.runs.specs.Demand3.{lowerWith, storesNothing, settlesFirst, storesSquares}
-use Rattle.runs.specs.Demand3.{StoringNothingFails, SettlingTheFirstFails, StoringSquaresFails}
+use Rattle.runs.specs.Demand3.{StoringNothingFails, SettlingTheFirstFails, StoringSquaresFails, KeepsNone, WrongOnesKeepNone}
 use Rattle.runs.specs.Demand3.{first, square, changed, reordered, ring, lowered, elsewhere, Asked, Declares}
 use Rattle.runs.specs.Demand3.{KeptInstance, SameInstance, RingInstance, Instances}
 use Rattle.runs.proofs.Known.{_&_}
-
--- what each element of a list has, a member has
-of-all : {A : Type 0} (P : A → Type 0) (l : List A) → All P l → (x : A) → List·Memᴰ x l → P x
-of-all P [] p x m = absurd (List·Memᴰ·not-nil m)
-of-all P (y ∷ l) p x m =
-    ⊎-elim (λ e. subst P (sym e) (p .0)) (λ t. of-all P l (p .1) x t) (List·Memᴰ·cases-cons m)
 
 -- numbers of which none is past 255 are bytes
 bytes-are : (s : List ℕ) → any (λ b. leb 256 b) s ≡ false → AreBytes s
@@ -88,10 +81,6 @@ two = record { place = 7; name = N2; expr = operation mul (reference N1) (litera
 abbrev first-list : List Constant
 first-list = one ∷ two ∷ []
 
-first-constants : constants (read first) ≡ first-list
-unfolding computed
-first-constants = refl
-
 -- N2 is settled as 42, so stored as that
 first-stored : StoredFor first N2 (pos 42)
 unfolding computed
@@ -107,44 +96,43 @@ stores-two x = isStored x && eqb (x .a) N2
 not-standing :
     (x : Lowered) (answer : IsAccepted x) →
     any stores-two (firstRecords (answer .results) (x .results)) ≡ false →
-    (v : ℕ) →
-    Stands x N2 v →
+    (z : ℤ) →
+    Stands x N2 z →
     ⊥
-not-standing x answer none-stores v s =
+not-standing x answer none-stores z s =
     let counts : s .reply .results ≡ answer .results = cc (s .reply .reply, answer .reply) in
-    let so : stores-two (s .constant) ≡ true = rw (s .marked) (eq-eqb (s .constant .a) N2 (s .name)) in
+    let so : stores-two (s .entry) ≡ true = rw (s .marked) (eq-eqb (s .entry .a) N2 (s .name)) in
     true≢false (sym (mem-any stores-two (rw counts at (s .counted)) so) ∙ none-stores)
 
--- but demand 3 says that it does, of a lowering that accepts K1
+-- of a lowering that accepts K1, without N2: demand 3 says that it stands, and keeping K1's constants in K1 does
+abbrev FailsWithout : AnyLowering → Type 0
+FailsWithout lower = (Demand3 lower → ⊥) × KeepsNone lower
+
 fails :
-    (lower : AnyLowering) (results diagnostics : List ℕ) (answer : IsAccepted (lower first results diagnostics)) →
-    any stores-two (firstRecords (answer .results) ((lower first results diagnostics) .results)) ≡ false →
-    Demand3 lower →
-    ⊥
-unfolding word
-fails lower results diagnostics answer none-stores demand =
-    let said = demand .of-each first results diagnostics first-bytes answer in
-    not-standing (lower first results diagnostics) answer none-stores 42 (said .exactly N2 42 .1 (pos 42, refl, first-stored))
+    (lower : AnyLowering) (answer : IsAccepted (lower first (replicate 480 0) (replicate 48 7))) →
+    any stores-two (firstRecords (answer .results) ((lower first (replicate 480 0) (replicate 48 7)) .results)) ≡ false →
+    FailsWithout lower
+fails lower answer none-stores = (λ demand. without (demand .of-each first _ _ first-bytes answer .exactly N2 (pos 42) .1 first-stored), λ both. without (both .kept N2 (pos 42) first-stored .1))
+  where
+    without : Stands (lower first (replicate 480 0) (replicate 48 7)) N2 (pos 42) → ⊥
+    without = not-standing (lower first (replicate 480 0) (replicate 48 7)) answer none-stores (pos 42)
+
+nothing-fails : FailsWithout storesNothing
+unfolding computed lowerWith firstRecords
+nothing-fails = fails storesNothing (record { results = 4; diagnostics = 2; constants = 0; reply = refl }) refl
+
+the-first-fails : FailsWithout settlesFirst
+unfolding computed lowerWith firstRecords
+the-first-fails = fails settlesFirst (record { results = 2; diagnostics = 0; constants = 1; reply = refl }) refl
 
 pub storing-nothing-fails : StoringNothingFails
-unfolding computed lowerWith firstRecords
-storing-nothing-fails =
-    fails
-    storesNothing
-    (replicate 480 0)
-    (replicate 48 7)
-    (record { results = 4; diagnostics = 2; constants = 0; reply = refl })
-    refl
+storing-nothing-fails = nothing-fails .0
 
 pub settling-the-first-fails : SettlingTheFirstFails
-unfolding computed lowerWith firstRecords
-settling-the-first-fails =
-    fails
-    settlesFirst
-    (replicate 480 0)
-    (replicate 24 7)
-    (record { results = 2; diagnostics = 0; constants = 1; reply = refl })
-    refl
+settling-the-first-fails = the-first-fails .0
+
+pub wrong-ones-keep-none : WrongOnesKeepNone
+wrong-ones-keep-none = (nothing-fails .1, the-first-fails .1)
 
 -- K6's constants: N2 is not stored, because its expression names N1 twice
 abbrev base : Constant
@@ -176,12 +164,12 @@ not-stored : (z : ℤ) → Stored each square-list N2 z → ⊥
 not-stored z (stored c values name is-reached holds e) = not-reached c name is-reached
 
 -- but it would stand
-square-stands : Stands (storesSquares square (replicate 480 0) (replicate 24 7)) N2 9
+square-stands : Stands (storesSquares square (replicate 480 0) (replicate 24 7)) N2 (pos 9)
 unfolding computed lowerWith firstRecords
 square-stands =
     record {
       reply = record { results = 4; diagnostics = 0; constants = 2; reply = refl };
-      constant = rec 41 1 N2 2 0 9 170 8;
+      entry = rec 41 1 N2 2 0 9 170 8;
       counted = List·Memᴰ·tail (List·Memᴰ·tail (List·Memᴰ·tail (List·Memᴰ·head refl)));
       marked = refl;
       name = refl;
@@ -190,8 +178,8 @@ square-stands =
 
 pub storing-squares-fails : StoringSquaresFails
 storing-squares-fails demand =
-    let said = demand .of-each square (replicate 480 0) (replicate 24 7) square-bytes (square-stands .reply) .exactly N2 9 .0 square-stands in
-    not-stored (said .0) (rw square-constants at (said .2))
+    let said = demand .of-each square (replicate 480 0) (replicate 24 7) square-bytes (square-stands .reply) .exactly N2 (pos 9) .0 square-stands in
+    not-stored (pos 9) (rw square-constants at said)
 
 -- The instances. Both lowerings of each are accepted
 first-accepted : IsAccepted (lowered first)
@@ -234,13 +222,6 @@ changed-one = record { place = 10; name = N1; expr = literal int 6 }
 
 abbrev changed-two : Constant
 changed-two = record { place = 4; name = N2; expr = operation mul (reference N1) (literal int 7) }
-
-abbrev changed-three : Constant
-changed-three = record { place = 15; name = N3; expr = operation add (reference N2) (reference N1) }
-
-changed-constants : constants (read changed) ≡ changed-two ∷ changed-one ∷ changed-three ∷ []
-unfolding computed
-changed-constants = refl
 
 changed-declares : DeclaresAllOf first changed
 unfolding computed
@@ -324,12 +305,12 @@ into-ring =
     }
 
 -- N4 is beside it, and stored
-beside-ring : Stands (lowered ring) N4 5
+beside-ring : Stands (lowered ring) N4 (pos 5)
 unfolding computed firstRecords
 beside-ring =
     record {
       reply = record { results = 2; diagnostics = 0; constants = 1; reply = refl };
-      constant = rec 41 1 N4 0 0 5 210 12;
+      entry = rec 41 1 N4 0 0 5 210 12;
       counted = List·Memᴰ·tail (List·Memᴰ·head refl);
       marked = refl;
       name = refl;
@@ -378,7 +359,6 @@ of-ring : OfEach ring (lowered ring)
 of-ring = demand-3 .of-each ring _ _ ring-bytes (beside-ring .reply)
 
 kept-instance : KeptInstance
-unfolding word
 kept-instance =
     let said = of-two first-and-changed .kept N2 (pos 42) first-stored in
     record {

@@ -7,7 +7,7 @@ use mathlib.Core.List.{List, [], _∷_, _++_, map, List·Memᴰ}
 use mathlib.Core.Logic.{_↔_}
 use mathlib.Core.Option.{some, none}
 use mathlib.Core.Path.{_≡_}
-use lib.IntN.{pos}
+use lib.IntN.{ℤ, pos}
 use lib.ListN.{take, replicate}
 use Rattle.record.specs.Bytes.{AreBytes}
 use Rattle.book.specs.Refusal.{firstRefusal}
@@ -18,7 +18,7 @@ use Rattle.constants.specs.Leads.{LiesOnRing, LeadsIntoRing}
 use Rattle.constants.specs.Declared.{constants, settled}
 use Rattle.lower.specs.LowerBook.{Lowered, lowerRead, lowerBook}
 use Rattle.lower.specs.Laws.{IsAccepted}
-use Rattle.lower.specs.Demand3.{AnyLowering, Stands, StoredFor, DeclaresAllOf, AddsNoneTo, Demand3}
+use Rattle.lower.specs.Demand3.{AnyLowering, Stands, StoredFor, DeclaresAllOf, AddsNoneTo, OfBoth, Demand3}
 use Rattle.runs.specs.Books.{bookOf, rec}
 use Rattle.runs.specs.Known.{N1, N2, N3, k1, k6, k7}
 use Rattle.runs.specs.Slips.{N4, N5}
@@ -46,16 +46,6 @@ settlesFirst = lowerChanged (take 1)
 -- "evaluating K6 to 9": a constant is reached though its expression names a declared one twice
 abbrev pub storesSquares : AnyLowering
 storesSquares = lowerWith (λ book. outcome once empty (constants book))
-
-abbrev pub StoringNothingFails : Type 0
-StoringNothingFails = Demand3 storesNothing → ⊥
-
-abbrev pub SettlingTheFirstFails : Type 0
-SettlingTheFirstFails = Demand3 settlesFirst → ⊥
-
--- storing too much fails it as well
-abbrev pub StoringSquaresFails : Type 0
-StoringSquaresFails = Demand3 storesSquares → ⊥
 
 -- The books. K1: N1 = 6, N2 = N1 × 7
 abbrev pub first : List ℕ
@@ -125,7 +115,27 @@ lowered book = lowerBook book (replicate 480 0) (replicate 24 7)
 abbrev pub elsewhere : List ℕ → Lowered
 elsewhere book = lowerBook book (replicate 700 255) (replicate 30 9)
 
--- what demand 3 asks of two books: both accepted, and "the second declares every constant of the first with the same expression"
+-- The wrong lowerings fail it
+abbrev pub StoringNothingFails : Type 0
+StoringNothingFails = Demand3 storesNothing → ⊥
+
+abbrev pub SettlingTheFirstFails : Type 0
+SettlingTheFirstFails = Demand3 settlesFirst → ⊥
+
+-- storing too much fails it as well
+abbrev pub StoringSquaresFails : Type 0
+StoringSquaresFails = Demand3 storesSquares → ⊥
+
+-- the first two fail what it says of two books, too: "every constant that demand 2 says is stored for the first is stored for the second", here
+-- of K1 and K1
+abbrev pub KeepsNone : AnyLowering → Type 0
+KeepsNone lower =
+    OfBoth first first (lower first (replicate 480 0) (replicate 48 7)) (lower first (replicate 480 0) (replicate 48 7)) → ⊥
+
+abbrev pub WrongOnesKeepNone : Type 0
+WrongOnesKeepNone = KeepsNone storesNothing × KeepsNone settlesFirst
+
+-- Books that meet what it asks. What demand 3 asks of two books: both accepted, and "the second declares every constant of the first with the same expression"
 pub record Asked (one other : List ℕ) : Type 0 where
   pub one-bytes : AreBytes one
   pub other-bytes : AreBytes other
@@ -146,15 +156,15 @@ pub record KeptInstance : Type 0 where
   pub stored : StoredFor first N2 (pos 42)
   -- so demand 3 says
   pub kept : StoredFor changed N2 (pos 42)
-  pub stands : Stands (lowered first) N2 42
-  pub stands-elsewhere : Stands (elsewhere changed) N2 42
+  pub stands : Stands (lowered first) N2 (pos 42)
+  pub stands-elsewhere : Stands (elsewhere changed) N2 (pos 42)
 
 -- "Where none is added, the two store exactly the same names with the same values": K1 and K1 reordered
 pub record SameInstance : Type 0 where
   pub asked : Asked first reordered
   pub none-added : AddsNoneTo first reordered
   -- so demand 3 says
-  pub same : (n v : ℕ) → Stands (lowered first) n v ↔ Stands (elsewhere reordered) n v
+  pub same : (n : ℕ) (z : ℤ) → Stands (lowered first) n z ↔ Stands (elsewhere reordered) n z
 
 -- "no accepted book itself stores a constant that lies on a ring of its references or leads into one"
 pub record RingInstance : Type 0 where
@@ -162,10 +172,10 @@ pub record RingInstance : Type 0 where
   pub is-accepted : IsAccepted (lowered ring)
   pub on-ring : Declares ring N1 (LiesOnRing (constants (read ring)))
   pub into-ring : Declares ring N3 (LeadsIntoRing (constants (read ring)))
-  pub beside : Stands (lowered ring) N4 5
+  pub beside : Stands (lowered ring) N4 (pos 5)
   -- so demand 3 says
-  pub not-on-ring : (v : ℕ) → Stands (lowered ring) N1 v → ⊥
-  pub not-into-ring : (v : ℕ) → Stands (lowered ring) N3 v → ⊥
+  pub not-on-ring : (z : ℤ) → Stands (lowered ring) N1 z → ⊥
+  pub not-into-ring : (z : ℤ) → Stands (lowered ring) N3 z → ⊥
 
 -- no part of demand 3 is empty
 pub record Instances : Type 0 where
