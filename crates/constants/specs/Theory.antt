@@ -122,7 +122,7 @@ FinalHasTheStored =
     (w : Way) (t : Table) (cs : List Constant) → Distinct cs → (final : Table) → IsFinal w t cs final → (n : ℕ) →
     ((z : ℤ) → Stores w t cs n z → final n ≡ some z) × (((z : ℤ) → Stores w t cs n z → ⊥) → final n ≡ t n)
 
--- that is document 01's "stored", where no constant has a value beforehand
+-- what is stored where no constant has a value beforehand is document 01's "stored"
 abbrev pub StoresTheStored : Type 0
 StoresTheStored =
     (w : Way) (cs : List Constant) → Distinct cs → (n : ℕ) (z : ℤ) → Stores w empty cs n z ↔ Stored w cs n z
