@@ -38,7 +38,7 @@ use Rattle.runs.specs.Compute.{computed}
 use Rattle.runs.specs.Known.{N1, N2, N3}
 use Rattle.runs.specs.Slips.{N4}
 use Rattle.runs.specs.Demand3.{lowerWith, storesNothing, settlesFirst, storesSquares}
-use Rattle.runs.specs.Demand3.{StoringNothingFails, SettlingTheFirstFails, StoringSquaresFails, KeepsNone, WrongOnesKeepNone}
+use Rattle.runs.specs.Demand3.{StoringNothingFails, SettlingTheFirstFails, StoringSquaresFails, FailsKept, WrongOnesFailKept}
 use Rattle.runs.specs.Demand3.{first, square, changed, reordered, ring, lowered, elsewhere, Asked, Declares}
 use Rattle.runs.specs.Demand3.{KeptInstance, SameInstance, RingInstance, Instances}
 use Rattle.runs.proofs.Known.{_&_}
@@ -104,35 +104,39 @@ not-standing x answer none-stores z s =
     let so : stores-two (s .entry) ≡ true = rw (s .marked) (eq-eqb (s .entry .a) N2 (s .name)) in
     true≢false (sym (mem-any stores-two (rw counts at (s .counted)) so) ∙ none-stores)
 
--- of a lowering that accepts K1, without N2: demand 3 says that it stands, and keeping K1's constants in K1 does
-abbrev FailsWithout : AnyLowering → Type 0
-FailsWithout lower = (Demand3 lower → ⊥) × KeepsNone lower
-
+-- of a lowering that accepts K1 or K1 changed without N2 demand 3 says that N2 stands, as K1 has it stored
 fails :
     (lower : AnyLowering) (answer : IsAccepted (lower first (replicate 480 0) (replicate 48 7))) →
     any stores-two (firstRecords (answer .results) ((lower first (replicate 480 0) (replicate 48 7)) .results)) ≡ false →
-    FailsWithout lower
-fails lower answer none-stores = (λ demand. without (demand .of-each first _ _ first-bytes answer .exactly N2 (pos 42) .1 first-stored), λ both. without (both .kept N2 (pos 42) first-stored .1))
-  where
-    without : Stands (lower first (replicate 480 0) (replicate 48 7)) N2 (pos 42) → ⊥
-    without = not-standing (lower first (replicate 480 0) (replicate 48 7)) answer none-stores (pos 42)
+    Demand3 lower →
+    ⊥
+fails lower answer none-stores demand =
+    not-standing _ answer none-stores (pos 42) (demand .of-each first _ _ first-bytes answer .exactly N2 (pos 42) .1 first-stored)
 
-nothing-fails : FailsWithout storesNothing
-unfolding computed lowerWith firstRecords
-nothing-fails = fails storesNothing (record { results = 4; diagnostics = 2; constants = 0; reply = refl }) refl
-
-the-first-fails : FailsWithout settlesFirst
-unfolding computed lowerWith firstRecords
-the-first-fails = fails settlesFirst (record { results = 2; diagnostics = 0; constants = 1; reply = refl }) refl
+fails-kept :
+    (lower : AnyLowering) (answer : IsAccepted (lower changed (replicate 700 255) (replicate 90 9))) →
+    any stores-two (firstRecords (answer .results) ((lower changed (replicate 700 255) (replicate 90 9)) .results)) ≡ false →
+    FailsKept lower
+fails-kept lower answer none-stores both = not-standing _ answer none-stores (pos 42) (both .kept N2 (pos 42) first-stored .2)
 
 pub storing-nothing-fails : StoringNothingFails
-storing-nothing-fails = nothing-fails .0
+unfolding computed lowerWith firstRecords
+storing-nothing-fails = fails storesNothing (record { results = 4; diagnostics = 2; constants = 0; reply = refl }) refl
 
 pub settling-the-first-fails : SettlingTheFirstFails
-settling-the-first-fails = the-first-fails .0
+unfolding computed lowerWith firstRecords
+settling-the-first-fails = fails settlesFirst (record { results = 2; diagnostics = 0; constants = 1; reply = refl }) refl
 
-pub wrong-ones-keep-none : WrongOnesKeepNone
-wrong-ones-keep-none = (nothing-fails .1, the-first-fails .1)
+nothing-kept : FailsKept storesNothing
+unfolding computed lowerWith firstRecords
+nothing-kept = fails-kept storesNothing (record { results = 10; diagnostics = 3; constants = 0; reply = refl }) refl
+
+one-kept : FailsKept settlesFirst
+unfolding computed lowerWith firstRecords
+one-kept = fails-kept settlesFirst (record { results = 6; diagnostics = 0; constants = 1; reply = refl }) refl
+
+pub wrong-ones-fail-kept : WrongOnesFailKept
+wrong-ones-fail-kept = (nothing-kept, one-kept)
 
 -- K6's constants: N2 is not stored, because its expression names N1 twice
 abbrev base : Constant

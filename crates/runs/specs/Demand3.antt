@@ -126,16 +126,22 @@ SettlingTheFirstFails = Demand3 settlesFirst → ⊥
 abbrev pub StoringSquaresFails : Type 0
 StoringSquaresFails = Demand3 storesSquares → ⊥
 
--- the first two fail what it says of two books, too: "every constant that demand 2 says is stored for the first is stored for the second", here
--- of K1 and K1
-abbrev pub KeepsNone : AnyLowering → Type 0
-KeepsNone lower =
-    OfBoth first first (lower first (replicate 480 0) (replicate 48 7)) (lower first (replicate 480 0) (replicate 48 7)) → ⊥
+-- the first two fail what it says of K1 and K1 changed by itself, too: "every constant that demand 2 says is stored for the first is stored for the
+-- second"
+abbrev pub FailsKept : AnyLowering → Type 0
+FailsKept lower =
+    OfBoth
+    first
+    changed
+    (lower first (replicate 480 0) (replicate 48 7))
+    (lower changed (replicate 700 255) (replicate 90 9)) →
+    ⊥
 
-abbrev pub WrongOnesKeepNone : Type 0
-WrongOnesKeepNone = KeepsNone storesNothing × KeepsNone settlesFirst
+abbrev pub WrongOnesFailKept : Type 0
+WrongOnesFailKept = FailsKept storesNothing × FailsKept settlesFirst
 
--- Books that meet what it asks. What demand 3 asks of two books: both accepted, and "the second declares every constant of the first with the same expression"
+-- Books that meet what it asks. What demand 3 asks of two books: both accepted, and "the second declares every constant of the first with the same
+-- expression"
 pub record Asked (one other : List ℕ) : Type 0 where
   pub one-bytes : AreBytes one
   pub other-bytes : AreBytes other
