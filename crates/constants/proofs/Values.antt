@@ -15,10 +15,10 @@ use Rattle.arith.specs.Checked.{fitting, checkedAdd, checkedSub, checkedMul, ch
 use Rattle.arith.proofs.Words.{signed-is-i64, cast-signed}
 use Rattle.book.specs.Lists.{All}
 use Rattle.book.specs.Faults.{recordOf, isKind}
-use Rattle.book.specs.Outline.{Book, _!_, numbersOf}
+use Rattle.book.specs.Outline.{Book, read, _!_, numbersOf}
 use Rattle.book.proofs.Lists.{either, all-map}
 use Rattle.book.proofs.Members.{of-all, all-of}
-use Rattle.book.proofs.Records.{record-within}
+use Rattle.book.proofs.Records.{record-within, records-within}
 use Rattle.constants.specs.Expr.{Literal, int, uint, float, hex, bool, literalOf}
 use Rattle.constants.specs.Expr.{Op, add, sub, mul, div, eq, ne, lt, le, gt, ge, opOf}
 use Rattle.constants.specs.Expr.{Expr, literal, reference, operation, exprOf, exprAt}
@@ -122,7 +122,8 @@ all-ordered P book h =
     (taken-declared each cs (order each cs) [] (order-is-in-turn each cs) c m))
 
 pub settled-are-i64 : SettledAreI64
-unfolding settled outcome constantAt
-settled-are-i64 book h =
+unfolding settled outcome constantAt read
+settled-are-i64 book bytes =
     settle-i64 empty (λ n. tt) _
-    (all-ordered (λ c. Worded (c .expr)) book (λ n. expr-at 64 (book .records) h ((book ! n) .c)))
+    (all-ordered (λ c. Worded (c .expr)) (read book)
+    (λ n. expr-at 64 (read book .records) (records-within book bytes) ((read book ! n) .c)))

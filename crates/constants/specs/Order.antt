@@ -54,7 +54,7 @@ pub data Reached (w : Way) (cs : List Constant) : Constant → Type 0 where
       ((d : Constant) → List·Memᴰ d cs → has (d .name) (refs (c .expr)) ≡ true → Reached w cs d) →
       Reached w cs c
 
--- c is not done, and the declared constants that it names are; `done` are names
+-- c is not done, it is admitted, and the declared constants that it names are done; `done` are names
 unfoldable pub ready : Way → List Constant → List ℕ → Constant → Bool
 ready w cs done c =
     not (has (c .name) done)

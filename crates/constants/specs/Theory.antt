@@ -23,6 +23,7 @@ abbrev pub InTurn : Way → List Constant → List ℕ → List Constant → Typ
 InTurn w cs done [] = (c : Constant) → List·Memᴰ c cs → ready w cs done c ≡ false
 InTurn w cs done (c ∷ taken) = List·Memᴰ c cs × (ready w cs done c ≡ true) × InTurn w cs (c .name ∷ done) taken
 
+-- what `order` takes is ready, and it goes on until nothing is
 abbrev pub OrderIsInTurn : Type 0
 OrderIsInTurn = (w : Way) (cs : List Constant) → InTurn w cs [] (order w cs)
 
@@ -60,7 +61,7 @@ ReadyIsReached =
     × (List·Memᴰ c taken → ⊥)
     × ((d : Constant) → List·Memᴰ d cs → has (d .name) (refs (c .expr)) ≡ true → List·Memᴰ d taken))
 
--- and the earliest of these is taken: when c is taken behind `taken`, nothing that stands before c is ready
+-- and the earliest of these is taken: when c is taken behind `taken`, it is ready (`OrderIsInTurn`), and nothing that stands before it is
 abbrev pub OrderTakesEarliest : Type 0
 OrderTakesEarliest =
     (w : Way) (cs taken rest : List Constant) (c : Constant) → order w cs ≡ taken ++ (c ∷ rest) →
@@ -106,13 +107,15 @@ SettledOverFinal =
     (x : Settled) →
     List·Memᴰ x (settle t taken) ↔ (Reached w cs (x .constant) × (evalConstExpr final (x .constant .expr) ≡ x .value))
 
--- What a list of constants settles: a constant, or a name, with a value or none; what it stores. What a name had beforehand is not stored by it.
+-- What a list of constants settles: the constant c, with a value or none
 abbrev pub SettlesAs : Way → Table → List Constant → Constant → Option ℤ → Type 0
 SettlesAs w t cs c o = List·Memᴰ (record { constant = c; value = o }) (outcome w t cs)
 
+-- a name
 abbrev pub Settles : Way → Table → List Constant → ℕ → Option ℤ → Type 0
 Settles w t cs n o = (c : Constant) × (c .name ≡ n) × SettlesAs w t cs c o
 
+-- what it stores: a name with a value. What the name had beforehand is not stored by it.
 abbrev pub Stores : Way → Table → List Constant → ℕ → ℤ → Type 0
 Stores w t cs n z = Settles w t cs n (some z)
 

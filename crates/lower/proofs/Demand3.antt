@@ -27,13 +27,13 @@ use Rattle.lower.specs.Demand3.{Stands, StoredFor, DeclaresAllOf, AddsNo
 use Rattle.lower.proofs.Told.{stored-are-told, accepted-unrefused}
 
 -- from two books that are not refused to their lists of constants
-module _ (first second : List ℕ) (one : firstRefusal first ≡ none) (two : firstRefusal second ≡ none) (all : DeclaresAllOf first second) where
+module _ (first second : List ℕ) (one : firstRefusal first ≡ none) (two : firstRefusal second ≡ none) (all : DeclaresAllOf second first) where
   pub has-all : DeclaresAll (constants (read second)) (constants (read first))
   has-all c m =
       let x = all c m in
       (x .0, x .1, x .2, sym (same-expressions-are-equal first second one two c (x .0) m (x .1) .0 (x .3)))
 
-  pub has-no-more : AddsNoneTo first second → DeclaresAll (constants (read first)) (constants (read second))
+  pub has-no-more : AddsNoneTo second first → DeclaresAll (constants (read first)) (constants (read second))
   has-no-more adds d m =
       let x = declares-mem (constants (read first)) (d .name) (adds d m) in
       let y = has-all (x .0) (x .1) in
@@ -73,7 +73,7 @@ module _ (book results diagnostics : List ℕ) (bytes : AreBytes book) (is : IsA
 module _
     (first results diagnostics : List ℕ) (second results′ diagnostics′ : List ℕ) (bytes : AreBytes first) (bytes′ : AreBytes second)
     (is : IsAccepted (lowerBook first results diagnostics)) (is′ : IsAccepted (lowerBook second results′ diagnostics′))
-    (all : DeclaresAllOf first second)
+    (all : DeclaresAllOf second first)
   where
     of-both : OfBoth first second (lowerBook first results diagnostics) (lowerBook second results′ diagnostics′)
     of-both =

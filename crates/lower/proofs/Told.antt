@@ -19,7 +19,6 @@ use Rattle.book.specs.Refusal.{firstRefusal}
 use Rattle.book.specs.Outline.{read}
 use Rattle.book.specs.Lists.{All}
 use Rattle.book.proofs.Members.{mem-keep, keep-mem, of-all}
-use Rattle.book.proofs.Records.{records-within}
 use Rattle.constants.specs.Values.{IsI64}
 use Rattle.constants.proofs.Values.{settled-are-i64}
 use Rattle.book.proofs.First.{passed-by-all}
@@ -103,4 +102,4 @@ stored-are-told book results diagnostics bytes is n z = (
     same a = reached-are-told book results diagnostics _ _ _ bytes (a .reply)
 
     i64s : All (λ x. IsI64 (x .value)) (settled (read book))
-    i64s = settled-are-i64 (read book) (records-within book bytes)
+    i64s = settled-are-i64 book bytes

@@ -104,6 +104,6 @@ written-within book most a s each e few h =
     given : All Within (records book) × All (λ c. IsI64 (c .value)) (settled (read book)) × Sound (registerDeclarations (read book)) 0
     given = (
       records-within book each,
-      settled-are-i64 (read book) (records-within book each),
+      settled-are-i64 book each,
       start-sound (read book) (omega (arith, few-records book each e)),
     )

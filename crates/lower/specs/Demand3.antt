@@ -41,7 +41,7 @@ StoredFor book n z = Stored each (constants (read book)) n z
 
 -- "the second declares every constant of the first with the same expression"
 abbrev pub DeclaresAllOf : List ℕ → List ℕ → Type 0
-DeclaresAllOf first second =
+DeclaresAllOf second first =
     (c : Constant) →
     List·Memᴰ c (constants (read first)) →
     (d : Constant)
@@ -49,9 +49,9 @@ DeclaresAllOf first second =
     × (d .name ≡ c .name)
     × SameExpression (read first) c (read second) d
 
--- "Where none is added"
+-- "Where none is added": the second adds none to the first
 abbrev pub AddsNoneTo : List ℕ → List ℕ → Type 0
-AddsNoneTo first second =
+AddsNoneTo second first =
     (d : Constant) → List·Memᴰ d (constants (read second)) → declares (constants (read first)) (d .name) ≡ true
 
 -- of one accepted book
@@ -73,7 +73,7 @@ pub record OfBoth (first second : List ℕ) (x y : Lowered) : Type 0 where
   pub kept :
       (n : ℕ) (z : ℤ) → StoredFor first n z → StoredFor second n z × Stands x n z × Stands y n z
   -- "Where none is added, the two store exactly the same names with the same values."
-  pub same : AddsNoneTo first second → (n : ℕ) (z : ℤ) → Stands x n z ↔ Stands y n z
+  pub same : AddsNoneTo second first → (n : ℕ) (z : ℤ) → Stands x n z ↔ Stands y n z
 
 -- "Take any two books, both accepted [..]. Whatever constants the second adds, in whatever order its constants stand, and whatever else in it
 -- differs"
@@ -90,5 +90,5 @@ pub record Demand3 (lower : AnyLowering) : Type 0 where
       AreBytes second →
       IsAccepted (lower first results diagnostics) →
       IsAccepted (lower second results′ diagnostics′) →
-      DeclaresAllOf first second →
+      DeclaresAllOf second first →
       OfBoth first second (lower first results diagnostics) (lower second results′ diagnostics′)

@@ -81,7 +81,7 @@ SlicesAreLeft =
     ((lowerBook book results diagnostics) .reply)
 
 -- Which reply is given: a refusal exactly if its row holds and no earlier one does. Rows 1 to 8 are told from the book as it lies there, rows 9
--- and 10 from all that its lowering does, one thing after the other: of each thing, and what comes before it.
+-- and 10 from one thing that its lowering does and the things before it.
 abbrev pub NoRowHolds : List ℕ → Type 0
 NoRowHolds book = (y : Refusal) → hasPlace book (y .cause) (y .place) ≡ true → Holds book y → ⊥
 

@@ -17,7 +17,7 @@ use Rattle.lower.specs.LowerBook.{accepted, lowerBook}
 use Rattle.lower.specs.Laws.{IsAccepted, firstRecords}
 use Rattle.lower.specs.Demand3.{Stands}
 
--- the 41s among the results counted are those of the reached constants, in their order
+-- the 41s among the results counted are those of the reached constants, in their order, by name, mark and value
 abbrev pub ReachedAreTold : Type 0
 ReachedAreTold =
     (book results diagnostics : List ℕ) (r d c : ℕ) →

@@ -34,7 +34,7 @@ WrittenWithin =
     run most (lowerRecords (settled (read book)) (read book)) start ≡ finished a s →
     All Within (s .results) × All Within (s .diagnostics)
 
--- the 41s that are written are those of the reached constants, in their order
+-- the 41s that are written are those of the reached constants, in their order, by name, mark and value
 abbrev pub ReachedAreWritten : Type 0
 ReachedAreWritten =
     (book : Book) →

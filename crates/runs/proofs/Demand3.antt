@@ -114,26 +114,40 @@ fails lower answer none-stores demand =
     not-standing _ answer none-stores (pos 42) (demand .of-each first _ _ first-bytes answer .exactly N2 (pos 42) .1 first-stored)
 
 fails-kept :
-    (lower : AnyLowering) (answer : IsAccepted (lower changed (replicate 700 255) (replicate 90 9))) →
+    (lower : AnyLowering) → IsAccepted (lower first (replicate 480 0) (replicate 48 7)) →
+    (answer : IsAccepted (lower changed (replicate 700 255) (replicate 90 9))) →
     any stores-two (firstRecords (answer .results) ((lower changed (replicate 700 255) (replicate 90 9)) .results)) ≡ false →
     FailsKept lower
-fails-kept lower answer none-stores both = not-standing _ answer none-stores (pos 42) (both .kept N2 (pos 42) first-stored .2)
+fails-kept lower one other none-stores =
+    record {
+      one-accepted = one;
+      other-accepted = other;
+      fails = λ both. not-standing _ other none-stores (pos 42) (both .kept N2 (pos 42) first-stored .2);
+    }
+
+nothing-accepted : IsAccepted (storesNothing first (replicate 480 0) (replicate 48 7))
+unfolding computed lowerWith
+nothing-accepted = record { results = 4; diagnostics = 2; constants = 0; reply = refl }
+
+one-accepted : IsAccepted (settlesFirst first (replicate 480 0) (replicate 48 7))
+unfolding computed lowerWith
+one-accepted = record { results = 2; diagnostics = 0; constants = 1; reply = refl }
 
 pub storing-nothing-fails : StoringNothingFails
-unfolding computed lowerWith firstRecords
-storing-nothing-fails = fails storesNothing (record { results = 4; diagnostics = 2; constants = 0; reply = refl }) refl
+unfolding computed lowerWith firstRecords nothing-accepted
+storing-nothing-fails = fails storesNothing nothing-accepted refl
 
 pub settling-the-first-fails : SettlingTheFirstFails
-unfolding computed lowerWith firstRecords
-settling-the-first-fails = fails settlesFirst (record { results = 2; diagnostics = 0; constants = 1; reply = refl }) refl
+unfolding computed lowerWith firstRecords one-accepted
+settling-the-first-fails = fails settlesFirst one-accepted refl
 
 nothing-kept : FailsKept storesNothing
 unfolding computed lowerWith firstRecords
-nothing-kept = fails-kept storesNothing (record { results = 10; diagnostics = 3; constants = 0; reply = refl }) refl
+nothing-kept = fails-kept storesNothing nothing-accepted (record { results = 10; diagnostics = 3; constants = 0; reply = refl }) refl
 
 one-kept : FailsKept settlesFirst
 unfolding computed lowerWith firstRecords
-one-kept = fails-kept settlesFirst (record { results = 6; diagnostics = 0; constants = 1; reply = refl }) refl
+one-kept = fails-kept settlesFirst one-accepted (record { results = 6; diagnostics = 0; constants = 1; reply = refl }) refl
 
 pub wrong-ones-fail-kept : WrongOnesFailKept
 wrong-ones-fail-kept = (nothing-kept, one-kept)
@@ -203,7 +217,7 @@ declares-first :
     (other : List ℕ) → firstRefusal other ≡ none → (a b : Constant) →
     List·Memᴰ a (constants (read other)) → List·Memᴰ b (constants (read other)) →
     (a .name ≡ N1) × (a .expr ≡ one .expr) → (b .name ≡ N2) × (b .expr ≡ two .expr) →
-    DeclaresAllOf first other
+    DeclaresAllOf other first
 unfolding computed
 declares-first other unrefused a b at-a at-b is-one is-two c m =
     of-all
@@ -227,7 +241,7 @@ changed-one = record { place = 10; name = N1; expr = literal int 6 }
 abbrev changed-two : Constant
 changed-two = record { place = 4; name = N2; expr = operation mul (reference N1) (literal int 7) }
 
-changed-declares : DeclaresAllOf first changed
+changed-declares : DeclaresAllOf changed first
 unfolding computed
 changed-declares =
     declares-first changed refl changed-one changed-two
@@ -244,13 +258,13 @@ reordered-constants : constants (read reordered) ≡ reordered-two ∷ reordered
 unfolding computed
 reordered-constants = refl
 
-reordered-declares : DeclaresAllOf first reordered
+reordered-declares : DeclaresAllOf reordered first
 unfolding computed
 reordered-declares =
     declares-first reordered refl reordered-one reordered-two
     (List·Memᴰ·tail (List·Memᴰ·head refl)) (List·Memᴰ·head refl) (refl, refl) (refl, refl)
 
-reordered-adds-none : AddsNoneTo first reordered
+reordered-adds-none : AddsNoneTo reordered first
 unfolding computed
 reordered-adds-none d m =
     of-all

@@ -126,16 +126,18 @@ SettlingTheFirstFails = Demand3 settlesFirst → ⊥
 abbrev pub StoringSquaresFails : Type 0
 StoringSquaresFails = Demand3 storesSquares → ⊥
 
--- the first two fail what it says of K1 and K1 changed by itself, too: "every constant that demand 2 says is stored for the first is stored for the
--- second"
-abbrev pub FailsKept : AnyLowering → Type 0
-FailsKept lower =
-    OfBoth
-    first
-    changed
-    (lower first (replicate 480 0) (replicate 48 7))
-    (lower changed (replicate 700 255) (replicate 90 9)) →
-    ⊥
+-- and the first two accept K1 and K1 changed and fail what it says of these: "every constant that demand 2 says is stored for the first is stored
+-- for the second" (N3 is added, so nothing else is said)
+pub record FailsKept (lower : AnyLowering) : Type 0 where
+  pub one-accepted : IsAccepted (lower first (replicate 480 0) (replicate 48 7))
+  pub other-accepted : IsAccepted (lower changed (replicate 700 255) (replicate 90 9))
+  pub fails :
+      OfBoth
+      first
+      changed
+      (lower first (replicate 480 0) (replicate 48 7))
+      (lower changed (replicate 700 255) (replicate 90 9)) →
+      ⊥
 
 abbrev pub WrongOnesFailKept : Type 0
 WrongOnesFailKept = FailsKept storesNothing × FailsKept settlesFirst
@@ -147,7 +149,7 @@ pub record Asked (one other : List ℕ) : Type 0 where
   pub other-bytes : AreBytes other
   pub one-accepted : IsAccepted (lowered one)
   pub other-accepted : IsAccepted (elsewhere other)
-  pub declares-all : DeclaresAllOf one other
+  pub declares-all : DeclaresAllOf other one
 
 -- a book declares the name n by a constant that has a property
 pub record Declares (book : List ℕ) (n : ℕ) (P : Constant → Type 0) : Type 0 where
@@ -168,7 +170,7 @@ pub record KeptInstance : Type 0 where
 -- "Where none is added, the two store exactly the same names with the same values": K1 and K1 reordered
 pub record SameInstance : Type 0 where
   pub asked : Asked first reordered
-  pub none-added : AddsNoneTo first reordered
+  pub none-added : AddsNoneTo reordered first
   -- so demand 3 says
   pub same : (n : ℕ) (z : ℤ) → Stands (lowered first) n z ↔ Stands (elsewhere reordered) n z
 
