@@ -2,7 +2,7 @@
 -- expression, and expressions that agree at every place are equal.
 -- Assumes nothing.
 use Prim.Native.Nat.{ℕ, _<_}
-use mathlib.Core.Bool.{Bool, true, false, _&&_, false≢true}
+use mathlib.Core.Bool.{true, false, _&&_, false≢true}
 use mathlib.Core.List.{List, [], _∷_, List·Memᴰ}
 use mathlib.Core.Option.{Option, some, none}
 use mathlib.Core.Path.{_≡_, refl, sym, ap, _∙_}
@@ -18,7 +18,7 @@ use Rattle.book.specs.Refusal.{firstRefusal}
 use Rattle.book.specs.Outline.{read, _!_}
 use Rattle.book.specs.Trees.{IsChild, Readable}
 use Rattle.book.proofs.Members.{at-from}
-use Rattle.book.proofs.Trees.{accepted-is-readable, withKind, by-row, by-rows}
+use Rattle.book.proofs.Trees.{both-so, accepted-is-readable, withKind, by-row, by-rows}
 use Rattle.constants.specs.Expr.{Literal, int, uint, float, hex, bool, literalOf}
 use Rattle.constants.specs.Expr.{Op, add, sub, mul, div, eq, ne, lt, le, gt, ge, opOf}
 use Rattle.constants.specs.Expr.{Expr, literal, reference, operation, exprOf, exprAt}
@@ -101,11 +101,7 @@ FitsV r (some w) = allows (w .v) (r .v) ≡ true
 
 fits-v : (r : Record) (o : Option Row) → fits r o ≡ true → FitsV r o
 fits-v r none e = false≢true e
-fits-v r (some w) e = go (allows (w .a) (r .a) && allows (w .b) (r .b) && allows (w .c) (r .c)) e
-  where
-    go : (b : Bool) → b && allows (w .v) (r .v) ≡ true → allows (w .v) (r .v) ≡ true
-    go true e = e
-    go false e = absurd (false≢true e)
+fits-v r (some w) e = both-so (allows (w .a) (r .a) && allows (w .b) (r .b) && allows (w .c) (r .c)) (allows (w .v) (r .v)) e .1
 
 -- the record of an expression. The rows: two of literals, references, operations
 top : (tree : ℕ → Expr) (r : Record) → isOf constant r ≡ true → wellShaped r ≡ true → seenOf (exprOf tree r) ≡ seen r
