@@ -12,7 +12,8 @@ use Rattle.constants.specs.Eval.{Table, evalConstExpr}
 use Rattle.constants.specs.Order.{Constant, Way, Reached, reached, has, declares}
 use Rattle.constants.specs.Leads.{Leads, names, further, LiesOnRing}
 use Rattle.constants.specs.Theory.{Distinct, SettlesAs, Settles, Stores}
-use Rattle.constants.specs.Changes.{DeclaresAll, NoneBefore, RestsOnNoneKept, RingsAreUnreached, NothingOnRings, Extension, RestsOnStored, ExtensionKeeps}
+use Rattle.constants.specs.Changes.{DeclaresAll, NoneBefore, RestsOnNoneKept, RingsAreUnreached}
+use Rattle.constants.specs.Changes.{NothingOnRings, Extension, RestsOnStored, ExtensionKeeps}
 use Rattle.constants.specs.Changes.{Reordering, ReorderingLeavesTable, RemovalKeeps, RemovalLoses, RemovalAddsNone}
 use Rattle.book.proofs.Trees.{not-so}
 use Rattle.constants.proofs.Tests.{has-mem, declares-mem, mem-declares}

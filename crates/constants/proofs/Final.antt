@@ -9,7 +9,8 @@ use mathlib.Core.Path.{_≡_, refl, sym, _∙_, ap, subst}
 use lib.IntN.{ℤ}
 use Rattle.constants.specs.Eval.{Table, store, evalConstExpr}
 use Rattle.constants.specs.Order.{Constant, Way, Settled, Reached, has, declares, order, settle, outcome}
-use Rattle.constants.specs.Theory.{Distinct, InTurn, after, IsFinal, AnyOrderIsFinal, FinalIsOne, SettledOverFinal, SettlesAs, Stores, FinalHasTheStored}
+use Rattle.constants.specs.Theory.{Distinct, InTurn, after, IsFinal, AnyOrderIsFinal}
+use Rattle.constants.specs.Theory.{FinalIsOne, SettledOverFinal, SettlesAs, Stores, FinalHasTheStored}
 use Rattle.constants.specs.Changes.{DeclaresAll, ReorderingLeavesTable}
 use Rattle.constants.proofs.Tests.{mem-has, declares-mem, mem-declares, is-ready}
 use Rattle.constants.proofs.Eval.{eval-agree, store-own, store-other}

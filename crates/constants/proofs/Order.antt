@@ -17,7 +17,8 @@ use Rattle.book.proofs.Members.{First, first-mem, Found, found}
 use Rattle.book.proofs.Trees.{not-so}
 use Rattle.constants.specs.Expr.{refs}
 use Rattle.constants.specs.Order.{Constant, Way, Reached, reached, has, admits, ready, orderFrom, order}
-use Rattle.constants.specs.Theory.{Distinct, InTurn, doneBy, OrderIsInTurn, InTurnTakesReached, ReadyIsReached, OrderTakesReached, OrderTakesEarliest, ReachedIsLeast, NoNameTwice, InTurnTakesOnce}
+use Rattle.constants.specs.Theory.{Distinct, InTurn, doneBy, OrderIsInTurn, InTurnTakesReached, ReadyIsReached}
+use Rattle.constants.specs.Theory.{OrderTakesReached, OrderTakesEarliest, ReachedIsLeast, NoNameTwice, InTurnTakesOnce}
 use Rattle.constants.proofs.Tests.{has-mem, mem-has, declares-mem, mem-declares, is-ready, ready-if}
 
 -- how many are not done

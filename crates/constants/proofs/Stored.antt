@@ -50,12 +50,15 @@ module _ (w : Way) (cs : List Constant) (distinct : Distinct cs) where
               subst (λ (j : ℕ). Stored w cs j y) (x .2)
               (below (x .0) (x .1) h' y (sym (own (x .0) (named (x .0) (x .1) h')) ∙ ap F (x .2) ∙ q))
 
+  in-final : (n : ℕ) → ((z : ℤ) → Stores w empty cs n z → F n ≡ some z) × (((z : ℤ) → Stores w empty cs n z → ⊥) → F n ≡ none)
+  in-final = final-has-the-stored w empty cs distinct F (is-final w empty cs distinct)
+
   is-settled : {n : ℕ} {z : ℤ} → Stored w cs n z → Stores w empty cs n z
   is-settled {n} {z} (stored c values e r over q) = (
     c,
     e,
     settles-if w empty cs distinct c (some z) .1
-        (r, eval-more values F (c .expr) z (λ m y h. final-has-the-stored w empty cs distinct F (is-final w empty cs distinct) m .0 y (is-settled (over m y h))) q),
+        (r, eval-more values F (c .expr) z (λ m y h. in-final m .0 y (is-settled (over m y h))) q),
   )
 
 pub stores-the-stored : StoresTheStored
