@@ -63,8 +63,8 @@ module _ (f g : ℕ → Step ℕ) where
 
 pub whole-constraints : WholeConstraints
 unfolding lowerWhereExpr
-whole-constraints book readable n less is more s =
+whole-constraints book sound n less is more s =
     ap (λ m. m s)
-    (whole (book .records) Of (λ d. lowerWhereExpr d book) readable low
+    (whole (book .records) Of (λ d. lowerWhereExpr d book) sound low
     (λ d e n is p. same _ _ _ (agree _ _ _ (λ m h. h .1 (inl (h .0))) (λ m h. h .1 (inr (h .0))) (book ! n) is p))
     n less is more)

@@ -26,6 +26,18 @@ Span P key n m x = P x × (n ≤ key x) × (key x < m)
 abbrev pick : {A : Type 0} → Bool → A → Option A → Option A
 pick b x o = elim b [ true ↦ some x | false ↦ o ]
 
+pub find-append :
+    {A : Type 0} (test : A → Bool) (l r : List A) → find test (l ++ r) ≡ orElse (find test l) (find test r)
+unfolding find orElse
+find-append test [] r = refl
+find-append {A} test (x ∷ l) r = go (test x) (find test (l ++ r)) (find-append test l r)
+  where
+    go :
+        (b : Bool) (o : Option A) → o ≡ orElse (find test l) (find test r) →
+        pick b x o ≡ orElse (pick b x (find test l)) (find test r)
+    go true o e = refl
+    go false o e = e
+
 module _ {A : Type 0} (test : A → Bool) (before : A → A → Bool) where
   -- of those of P that pass the test: there is none, or this one, and none is before it
   abbrev First : (A → Type 0) → Option A → Type 0
@@ -52,24 +64,13 @@ module _ {A : Type 0} (test : A → Bool) (before : A → A → Bool) where
       go true e = (h, e, λ y k b t. irreflexive (rw (same y k) at b))
       go false e = λ y k t. false≢true (sym e ∙ ap test (sym (same y k)) ∙ t)
 
-  find-append : (l r : List A) → find test (l ++ r) ≡ orElse (find test l) (find test r)
-  unfolding find orElse
-  find-append [] r = refl
-  find-append (x ∷ l) r = go (test x) (find test (l ++ r)) (find-append l r)
-    where
-      go :
-          (b : Bool) (o : Option A) → o ≡ orElse (find test l) (find test r) →
-          pick b x o ≡ orElse (pick b x (find test l)) (find test r)
-      go true o e = refl
-      go false o e = e
-
   -- those of P with a smaller key are not behind the others
   module _ {P : A → Type 0} (key : A → ℕ) (up : (x y : A) → P x → P y → key x < key y → before y x ≡ true → ⊥) where
     append :
         (n k m : ℕ) (l r : List A) → n ≤ k → k ≤ m →
         Found P key n k l → Found P key k m r → Found P key n m (l ++ r)
     unfolding orElse
-    append n k m l r low high f g = rw (find-append l r) (go (find test l) f)
+    append n k m l r low high f g = rw (find-append test l r) (go (find test l) f)
       where
         go : (o : Option A) → First (Span P key n k) o → First (Span P key n m) (orElse o (find test r))
         go none f =

@@ -3,3 +3,13 @@ pub mod Lists
 pub mod Members
 pub mod Records
 pub mod Trees
+pub mod Scans
+pub mod Counts
+pub mod Cells
+pub mod Places
+pub mod Marks
+pub mod Declares
+pub mod Levels
+pub mod Looks
+pub mod Answers
+pub mod Accepted

@@ -1,4 +1,4 @@
--- The trees of an accepted book, and readers that take so many levels of a tree: more levels than there are give the same.
+-- Proofs by the rows of the table, and readers that take so many levels of a tree: more levels than there are give the same.
 -- Assumes nothing.
 use Prim.Native.Nat.{ℕ, zero, suc, _+_, _≤_, _<_}
 use mathlib.Core.Bool.{Bool, true, false, cond, not, _&&_, _||_, false≢true, true≢false}
@@ -17,7 +17,7 @@ use Rattle.book.specs.Blocks.{recordCount, records}
 use Rattle.book.specs.Faults.{recordOf, shapeFault, usedBefore, childFault, deeperThan, depthFault}
 use Rattle.book.specs.Refusal.{Cause, shape, child, depth, at, faulty}
 use Rattle.book.specs.First.{hasPlace}
-use Rattle.book.specs.Trees.{IsChild, Readable, AcceptedIsReadable}
+use Rattle.book.specs.Trees.{WellFormed}
 use Rattle.book.proofs.First.{passed-by-all}
 use Rattle.book.proofs.Records.{records-length}
 
@@ -26,7 +26,7 @@ pub not-so : (b : Bool) → (b ≡ true → ⊥) → b ≡ false
 not-so false f = refl
 not-so true f = absurd (f refl)
 
-both-not : (a b : Bool) → a || b ≡ false → (a ≡ false) × (b ≡ false)
+pub both-not : (a b : Bool) → a || b ≡ false → (a ≡ false) × (b ≡ false)
 both-not false b e = (refl, e)
 both-not true b e = absurd (true≢false e)
 
@@ -56,32 +56,6 @@ module _ {A : Type 0} where
           All P (x ∷ l)
       go true t e rest = absurd (true≢false e)
       go false t e rest = (f x t, rest e)
-
-pub accepted-is-readable : AcceptedIsReadable
-unfolding hasPlace faulty shapeFault childFault depthFault
-accepted-is-readable book e = record {
-  shaped = λ n less. not-false _ (passes shape n (here n less));
-  children-are = λ n less. none-passes _ (child-of n) (children (rec n)) (both-not _ _ (passes child n (here n less)) .0);
-  shallow = λ n less low. rw (lt-ltb _ _ low) at (passes depth n (here n less));
-}
-  where
-    rec : ℕ → Record
-    rec n = recordOf (records book) n
-
-    passes : (c : Cause) (n : ℕ) → hasPlace book c n ≡ true → faulty book (records book) c n ≡ false
-    passes c n h = not-so _ (passed-by-all book .0 e (at c n) h)
-
-    here : (n : ℕ) → n < length (records book) → ltb n (recordCount book) ≡ true
-    here n less = lt-ltb n (recordCount book) (omega (arith, records-length book))
-
-    child-of :
-        (n : ℕ) (c : Child) →
-        leb n (c .number) || not (isOf (c .group) (rec (c .number))) || usedBefore (records book) n (c .number) ≡ false →
-        IsChild (records book) n c
-    child-of n c f =
-        let (g, _) = both-not _ _ f in
-        let (less, is) = both-not _ _ g in
-        record { earlier = leb-false _ _ less; of-group = not-false _ is }
 
 -- the rows of a group
 abbrev rowsOf : Group → List Row
@@ -139,7 +113,7 @@ module _ {A : Type 0} (rs : List Record) (Of : Record → Type 0) (read : ℕ �
 
   -- kinds from 20 up are not of the sort, and one level more depends on the children alone
   module _
-      (readable : Readable rs) (low : (r : Record) → Of r → r .kind < 20)
+      (sound : WellFormed rs) (low : (r : Record) → Of r → r .kind < 20)
       (one-more : (d e n : ℕ) → Of (recordOf rs n) → All (SameAt d e) (children (recordOf rs n)) → read (suc d) n ≡ read (suc e) n) where
     not-deeper :
         (d e n : ℕ) → e ≤ d → n < length rs → Of (recordOf rs n) → deeperThan e rs n ≡ false → read d n ≡ read e n
@@ -151,8 +125,8 @@ module _ {A : Type 0} (rs : List Record) (Of : Record → Type 0) (read : ℕ �
         one-more d e n is
         (all-with
         (λ c h shallow′. (h .of-group, λ is′. not-deeper d e (c .number) (omega arith) (omega arith) is′ shallow′))
-        cs (readable .children-are n less) (none-passes _ (λ c h. h) cs shallow))
+        cs (sound n less .children-are) (none-passes _ (λ c h. h) cs shallow))
 
     pub whole : (n : ℕ) → n < length rs → Of (recordOf rs n) → (more : ℕ) → read (64 + more) n ≡ read 64 n
     whole n less is more =
-        not-deeper (64 + more) 64 n (omega arith) less is (readable .shallow n less (low (recordOf rs n) is))
+        not-deeper (64 + more) 64 n (omega arith) less is (sound n less .shallow (low (recordOf rs n) is))

@@ -31,15 +31,15 @@ abbrev last : List ℕ → ℕ → Bool
 last book k = eqb (k + 1) (blocks book)
 
 -- "21, in the last block 1 to 21"
-abbrev countHolds : List ℕ → ℕ → Bool
+abbrev pub countHolds : List ℕ → ℕ → Bool
 countHolds book k = cond (last book k) (leb 1 (recordsIn book k) && leb (recordsIn book k) 21) (eqb (recordsIn book k) 21)
 
 -- "byte 3 zero, but in block 0 it is 1 where wildcard imports exist"
-abbrev byte3Holds : List ℕ → ℕ → Bool
+abbrev pub byte3Holds : List ℕ → ℕ → Bool
 byte3Holds book k = cond (eqb k 0) (ltb (getD (block book k) 3 0) 2) (eqb (getD (block book k) 3 0) 0)
 
 -- "Unused record places are zero", and "508-509 zero" behind them
-abbrev restHolds : List ℕ → ℕ → Bool
+abbrev pub restHolds : List ℕ → ℕ → Bool
 restHolds book k =
     let used : ℕ = 4 + 24 * recordsIn book k in
     not (any (λ x. not (eqb x 0)) (take (510 - used) (drop used (block book k))))

@@ -32,14 +32,15 @@ unfoldable pub usedTwice : List Child → Bool
 usedTwice [] = false
 usedTwice (x ∷ xs) = any (λ c. eqb (c .number) (x .number)) xs || usedTwice xs
 
+-- a child of record n that is "not earlier, of the wrong group, or used before"
+abbrev pub isWrong : List Record → ℕ → Child → Bool
+isWrong rs n c = leb n (c .number) || not (isOf (c .group) (recordOf rs (c .number))) || usedBefore rs n (c .number)
+
 -- cause 5: "child not earlier, of the wrong group, or used before, also by the same record"
 unfoldable pub childFault : List Record → ℕ → Bool
 childFault rs n =
     let cs : List Child = children (recordOf rs n) in
-    any
-    (λ c. leb n (c .number) || not (isOf (c .group) (recordOf rs (c .number))) || usedBefore rs n (c .number))
-    cs
-    || usedTwice cs
+    any (isWrong rs n) cs || usedTwice cs
 
 -- the records before n that the follow rule looks at, latest first: it "passes over kinds 1-16"
 unfoldable pub before : List Record → ℕ → List Record

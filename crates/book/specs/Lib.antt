@@ -6,3 +6,7 @@ pub mod Refusal
 pub mod First
 pub mod Outline
 pub mod Trees
+pub mod Answer
+pub mod Rows
+pub mod Follow
+pub mod Tables

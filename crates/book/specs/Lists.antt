@@ -21,6 +21,12 @@ module _ {A : Type 0} where
   find test [] = none
   find test (x ∷ xs) = elim (test x) [ true ↦ some x | false ↦ find test xs ]
 
+  -- element n, if there is one
+  unfoldable pub at : List A → ℕ → Option A
+  at [] n = none
+  at (x ∷ l) zero = some x
+  at (x ∷ l) (suc n) = at l n
+
   -- the elements that pass, in their order
   unfoldable pub keep : (A → Bool) → List A → List A
   keep test [] = []

@@ -45,14 +45,21 @@ pub record Refusal : Type 0 where
 abbrev pub at : Cause → ℕ → Refusal
 at c p = record { cause = c; place = p }
 
+-- "2 before 3"
+abbrev pub atBlock : ℕ → List Refusal
+atBlock k = at check k ∷ at block k ∷ []
+
+-- "4 to 8 within each"
+abbrev pub atRecord : ℕ → List Refusal
+atRecord n = at shape n ∷ at child n ∷ at follow n ∷ at name n ∷ at depth n ∷ []
+
 -- "Order: 1; blocks upward, 2 before 3; records upward, 4 to 8 within each"
 unfoldable pub inOrder : List ℕ → List Refusal
-inOrder book =
-    at bookLength 0
-    ∷ flatMap (λ k. at check k ∷ at block k ∷ []) (upTo (blocks book))
-    ++ flatMap
-    (λ n. at shape n ∷ at child n ∷ at follow n ∷ at name n ∷ at depth n ∷ [])
-    (upTo (recordCount book))
+inOrder book = at bookLength 0 ∷ flatMap atBlock (upTo (blocks book)) ++ flatMap atRecord (upTo (recordCount book))
+
+-- a refusal whose row holds at its place
+abbrev pub holds : List ℕ → Refusal → Bool
+holds book x = faulty book (records book) (x .cause) (x .place)
 
 -- the first refusal, or none
 unfoldable pub firstRefusal : List ℕ → Option Refusal

@@ -138,6 +138,29 @@ childrenBy r (some w) = childIn (w .a) (r .a) ++ childIn (w .b) (r .b) ++ childI
 unfoldable pub children : Record → List Child
 children r = childrenBy r (rowOf r)
 
+-- the name in a field; "65,535 means none where 'or none' is said"
+unfoldable pub nameIn : Field → ℕ → List ℕ
+nameIn name x = x ∷ []
+nameIn name? x = elim (eqb x 65535) [ true ↦ [] | false ↦ x ∷ [] ]
+nameIn unused x = []
+nameIn flag x = []
+nameIn bits x = []
+nameIn string x = []
+nameIn string? x = []
+nameIn ordinal x = []
+nameIn free x = []
+nameIn (child g) x = []
+nameIn (child? g) x = []
+
+-- the names that a row says
+abbrev pub namesBy : Record → Option Row → List ℕ
+namesBy r none = []
+namesBy r (some w) = nameIn (w .a) (r .a) ++ nameIn (w .b) (r .b) ++ nameIn (w .c) (r .c)
+
+-- the names that a record gives or refers to
+unfoldable pub names : Record → List ℕ
+names r = namesBy r (rowOf r)
+
 -- groups by number, to compare them
 abbrev pub groupNumber : Group → ℕ
 groupNumber type = 1

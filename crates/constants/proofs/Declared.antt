@@ -14,7 +14,7 @@ use Rattle.book.specs.Shape.{type, constant, declaration, name, child, unused, 
 use Rattle.book.specs.Shape.{Child, childIn, childrenBy, children}
 use Rattle.book.specs.Faults.{recordOf, isKind}
 use Rattle.book.specs.Outline.{Book, _!_, numbersOf}
-use Rattle.book.specs.Trees.{IsChild, Readable}
+use Rattle.book.specs.Trees.{IsChild, WellFormed}
 use Rattle.book.proofs.Members.{mem-keep, mem-up-to}
 use Rattle.book.proofs.Trees.{withKind}
 use Rattle.constants.specs.Order.{Constant}
@@ -50,7 +50,7 @@ module _ (P : Child → Type 0) (r : Record) where
       go false s p = absurd (false≢true s)
 
 pub expression-is-child :
-    (rs : List Record) → Readable rs → (n : ℕ) → n < length rs → recordOf rs n .kind ≡ 24 →
+    (rs : List Record) → WellFormed rs → (n : ℕ) → n < length rs → recordOf rs n .kind ≡ 24 →
     IsChild rs n (record { group = constant; number = recordOf rs n .c })
-expression-is-child rs readable n less e =
-    expressed (IsChild rs n) (recordOf rs n) e (readable .shaped n less) (readable .children-are n less)
+expression-is-child rs sound n less e =
+    expressed (IsChild rs n) (recordOf rs n) e (sound n less .shaped) (sound n less .children-are)

@@ -16,9 +16,10 @@ use Rattle.book.specs.Faults.{recordOf, isKind}
 use Rattle.book.specs.Blocks.{records}
 use Rattle.book.specs.Refusal.{firstRefusal}
 use Rattle.book.specs.Outline.{read, _!_}
-use Rattle.book.specs.Trees.{IsChild, Readable}
+use Rattle.book.specs.Trees.{IsChild, WellFormed}
 use Rattle.book.proofs.Members.{at-from}
-use Rattle.book.proofs.Trees.{both-so, accepted-is-readable, withKind, by-row, by-rows}
+use Rattle.book.proofs.Trees.{both-so, withKind, by-row, by-rows}
+use Rattle.book.proofs.Accepted.{accepted-is-readable}
 use Rattle.constants.specs.Expr.{Literal, int, uint, float, hex, bool, literalOf}
 use Rattle.constants.specs.Expr.{Op, add, sub, mul, div, eq, ne, lt, le, gt, ge, opOf}
 use Rattle.constants.specs.Expr.{Expr, literal, reference, operation, exprOf, exprAt}
@@ -141,19 +142,19 @@ module _ (rs : List Record) (side : Side) (way : List Side) where
       child right p q = here (r .b) (q .earlier) (q .of-group)
 
 -- what stands at a place of a tree stands there in its expression
-module _ (rs : List Record) (readable : Readable rs) where
+module _ (rs : List Record) (sound : WellFormed rs) where
   one-more : (n : ℕ) → n < length rs → isOf constant (recordOf rs n) ≡ true → exprAt 64 rs n ≡ exprOf (exprAt 64 rs) (recordOf rs n)
   unfolding exprAt
-  one-more n less is = sym (whole-expressions rs readable n less is 1)
+  one-more n less is = sym (whole-expressions rs sound n less is 1)
 
   stands :
       (place : List Side) (n : ℕ) → n < length rs → isOf constant (recordOf rs n) ≡ true →
       standsAt rs n place ≡ standsIn place (exprAt 64 rs n)
   unfolding standsAt
   stands [] n less is =
-      ap some (sym (top (exprAt 64 rs) (recordOf rs n) is (readable .shaped n less)) ∙ ap seenOf (sym (one-more n less is)))
+      ap some (sym (top (exprAt 64 rs) (recordOf rs n) is (sound n less .shaped)) ∙ ap seenOf (sym (one-more n less is)))
   stands (side ∷ way) n less is =
-      below rs side way (exprAt 64 rs) n (λ m h. stands way m (omega arith)) (recordOf rs n) is (readable .children-are n less)
+      below rs side way (exprAt 64 rs) n (λ m h. stands way m (omega arith)) (recordOf rs n) is (sound n less .children-are)
       ∙ ap (standsIn (side ∷ way)) (sym (one-more n less is))
 
 -- expressions that agree at every place are equal: what stands on top says which they are
@@ -181,16 +182,16 @@ equal (operation o l r) (literal k w) h = absurd (omega (arith, kinds h))
 equal (operation o l r) (reference m) h = absurd (omega (arith, kinds h))
 
 pub same-trees-are-equal : SameTreesAreEqual
-same-trees-are-equal rs readable n less is qs readable′ m less′ is′ = (
+same-trees-are-equal rs sound n less is qs sound′ m less′ is′ = (
   λ h. equal (exprAt 64 rs n) (exprAt 64 qs m) (λ place. sym (here place) ∙ h place ∙ there place),
   λ e place. here place ∙ ap (standsIn place) e ∙ sym (there place),
 )
   where
     here : (place : List Side) → standsAt rs n place ≡ standsIn place (exprAt 64 rs n)
-    here place = stands rs readable place n less is
+    here place = stands rs sound place n less is
 
     there : (place : List Side) → standsAt qs m place ≡ standsIn place (exprAt 64 qs m)
-    there place = stands qs readable′ place m less′ is′
+    there place = stands qs sound′ place m less′ is′
 
 -- the expression of a constant of an accepted book is the tree at a child of its record
 rooted :
@@ -200,7 +201,7 @@ rooted :
 unfolding read constantAt
 rooted {c} book e m =
     let (at, less, is) = declared-at (read book) m in
-    let is-child = expression-is-child (records book) (accepted-is-readable book e) (c .place) less is in
+    let is-child = expression-is-child (records book) (accepted-is-readable book e .well-formed) (c .place) less is in
     (ap (λ c. c .expr) at, omega (arith, is-child .earlier), is-child .of-group)
 
 pub same-expressions-are-equal : SameExpressionsAreEqual
@@ -209,5 +210,5 @@ same-expressions-are-equal book other e e′ c d m m′ =
     let (at, less, is) = rooted book e m in
     let (at′, less′, is′) = rooted other e′ m′ in
     let same =
-    same-trees-are-equal (records book) (accepted-is-readable book e) _ less is (records other) (accepted-is-readable other e′) _ less′ is′ in
+    same-trees-are-equal (records book) (accepted-is-readable book e .well-formed) _ less is (records other) (accepted-is-readable other e′ .well-formed) _ less′ is′ in
     (λ h. at ∙ same .0 h ∙ sym at′, λ h. same .1 (sym at ∙ h ∙ at′))

@@ -29,6 +29,6 @@ same f g P agree r is =
 
 pub whole-expressions : WholeExpressions
 unfolding exprAt
-whole-expressions rs readable =
-    whole rs (λ r. isOf constant r ≡ true) (λ d. exprAt d rs) readable low
+whole-expressions rs sound =
+    whole rs (λ r. isOf constant r ≡ true) (λ d. exprAt d rs) sound low
     (λ d e n. same (exprAt d rs) (exprAt e rs) _ (λ m h. h .1 (h .0)) (recordOf rs n))

@@ -12,7 +12,7 @@ use Rattle.book.specs.Shape.{constant, isOf}
 use Rattle.book.specs.Faults.{recordOf, isKind}
 use Rattle.book.specs.Refusal.{firstRefusal}
 use Rattle.book.specs.Outline.{Book, read, _!_}
-use Rattle.book.specs.Trees.{Readable}
+use Rattle.book.specs.Trees.{WellFormed}
 use Rattle.constants.specs.Expr.{exprAt}
 use Rattle.constants.specs.Order.{Constant}
 use Rattle.constants.specs.Declared.{constants}
@@ -57,8 +57,8 @@ SameExpression book c other d =
 -- two trees of accepted books are the same exactly if the expressions are equal
 abbrev pub SameTreesAreEqual : Type 0
 SameTreesAreEqual =
-    (rs : List Record) → Readable rs → (n : ℕ) → n < length rs → isOf constant (recordOf rs n) ≡ true →
-    (qs : List Record) → Readable qs → (m : ℕ) → m < length qs → isOf constant (recordOf qs m) ≡ true →
+    (rs : List Record) → WellFormed rs → (n : ℕ) → n < length rs → isOf constant (recordOf rs n) ≡ true →
+    (qs : List Record) → WellFormed qs → (m : ℕ) → m < length qs → isOf constant (recordOf qs m) ≡ true →
     SameTrees rs n qs m ↔ (exprAt 64 rs n ≡ exprAt 64 qs m)
 
 -- so of the constants of accepted books

@@ -8,11 +8,11 @@ use lib.ListN.{length}
 use Rattle.record.specs.declared.Record.{Record}
 use Rattle.book.specs.Shape.{constant, isOf}
 use Rattle.book.specs.Faults.{recordOf}
-use Rattle.book.specs.Trees.{Readable}
+use Rattle.book.specs.Trees.{WellFormed}
 use Rattle.constants.specs.Expr.{exprAt}
 
 -- more levels give the same expression, in the records of an accepted book
 abbrev pub WholeExpressions : Type 0
 WholeExpressions =
-    (rs : List Record) → Readable rs →
+    (rs : List Record) → WellFormed rs →
     (n : ℕ) → n < length rs → isOf constant (recordOf rs n) ≡ true → (more : ℕ) → exprAt (64 + more) rs n ≡ exprAt 64 rs n

@@ -13,7 +13,8 @@ use Rattle.book.specs.Blocks.{records}
 use Rattle.book.specs.Faults.{isKind}
 use Rattle.book.specs.Outline.{Book, read}
 use Rattle.book.specs.Lists.{All, keep}
-use Rattle.book.proofs.Records.{records-within, few-records}
+use Rattle.book.proofs.Records.{records-within}
+use Rattle.book.proofs.Accepted.{accepted-is-readable}
 use Rattle.constants.specs.Declared.{settled}
 use Rattle.constants.specs.Values.{IsI64}
 use Rattle.constants.proofs.Values.{settled-are-i64}
@@ -105,5 +106,5 @@ written-within book most a s each e few h =
     given = (
       records-within book each,
       settled-are-i64 book each,
-      start-sound (read book) (omega (arith, few-records book each e)),
+      start-sound (read book) (omega (arith, accepted-is-readable book e .few-records, accepted-is-readable book e .counted)),
     )

@@ -11,13 +11,13 @@ pub fn from(s: &[u8], at: usize) -> &[u8]
     if at <= s.len() { &s[at..] } else { &s[..0] }
 }
 
-pub(crate) fn one(s: &[u8]) -> u8
+pub fn one(s: &[u8]) -> u8
     ensures { λ r. ⌜ r ≡ littleEndian 1 (now (s .entry)) ⌝ }
 {
     if 0 < s.len() { s[0] } else { 0 }
 }
 
-pub(crate) fn two(s: &[u8]) -> u16
+pub fn two(s: &[u8]) -> u16
     ensures { λ r. ⌜ r ≡ littleEndian 2 (now (s .entry)) ⌝ }
 {
     let low = one(s) as u16;

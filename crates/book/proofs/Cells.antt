@@ -1,0 +1,235 @@
+-- The table of shapes: what its numbers say.
+-- Assumes nothing.
+use Prim.Native.Nat.{ℕ, zero, suc, _+_, _-_, _^_, _≤_, _<_}
+use mathlib.Core.Bool.{Bool, true, false, cond, _&&_, _||_}
+use mathlib.Core.List.{List, [], _∷_, map}
+use mathlib.Core.Option.{Option, some, none}
+use mathlib.Core.Path.{_≡_, refl, sym, ap, _∙_}
+use native.Mathlib.Numerals.{add-one}
+use native.Mathlib.Omega.{arith}
+use lib.Dec.{leb, ltb, eqb}
+use lib.ListN.{length, drop, getD, List·getD-eq-default}
+use lib.Seq.{getD-drop}
+use borrow.Author.Tests.{ltb-true, ltb-false, lt-ltb, le-ltb}
+use Rattle.record.specs.declared.Record.{Record}
+use Rattle.book.specs.Lists.{find, at}
+use Rattle.book.specs.Shape.{Group, type, constant, constraint, operand, declaration, item}
+use Rattle.book.specs.Shape.{Field, unused, flag, bits, name, name?, string, string?, ordinal, free, child, child?}
+use Rattle.book.specs.Shape.{Row, table, rowOf, allows, fits, childIn, groupNumber, inGroup, isOf}
+use Rattle.book.specs.Rows.{rowAt, fieldNumber, fieldIn, groupIn}
+
+-- an element that is there stands at its number, and each number below the length has one
+module _ {A B : Type 0} (f : A → B) (d : B) where
+  pub at-map : (l : List A) (i : ℕ) {x : A} → at l i ≡ some x → getD (map f l) i d ≡ f x
+  unfolding at
+  at-map [] i e = let z : _≡_ {A = ℕ} 0 1 = cc in absurd (omega arith)
+  at-map (y ∷ l) zero {x} e = let same : y ≡ x = cc in ap f same
+  at-map (y ∷ l) (suc i) e = at-map l i e
+
+pub at-below : {A : Type 0} (l : List A) (i : ℕ) → i < length l → (x : A) × (at l i ≡ some x)
+unfolding at
+at-below [] i less = absurd (omega arith)
+at-below (x ∷ l) zero less = (x, refl)
+at-below (x ∷ l) (suc i) less = at-below l i (omega arith)
+
+-- 38 rows
+pub rows : length table ≡ 38
+unfolding table
+rows = refl
+
+pub row-below : (i : ℕ) → i < 38 → (w : Row) × (rowAt i ≡ some w)
+unfolding rowAt
+row-below i less = at-below table i (rw rows less)
+
+-- the fields of a row, by number
+module _ (i : ℕ) {w : Row} (e : rowAt i ≡ some w) where
+  pub field-a : fieldIn (rowAt i) 0 ≡ fieldNumber (w .a)
+  unfolding fieldIn
+  field-a = ap (λ o. fieldIn o 0) e
+
+  pub field-b : fieldIn (rowAt i) 1 ≡ fieldNumber (w .b)
+  unfolding fieldIn
+  field-b = ap (λ o. fieldIn o 1) e
+
+  pub field-c : fieldIn (rowAt i) 2 ≡ fieldNumber (w .c)
+  unfolding fieldIn
+  field-c = ap (λ o. fieldIn o 2) e
+
+  pub field-v : fieldIn (rowAt i) 3 ≡ fieldNumber (w .v)
+  unfolding fieldIn
+  field-v = ap (λ o. fieldIn o 3) e
+
+-- the numbers of the groups are 1 to 6
+pub group-range : (g : Group) → (0 < groupNumber g) × (groupNumber g ≤ 6)
+group-range type = (omega arith, omega arith)
+group-range constant = (omega arith, omega arith)
+group-range constraint = (omega arith, omega arith)
+group-range operand = (omega arith, omega arith)
+group-range declaration = (omega arith, omega arith)
+group-range item = (omega arith, omega arith)
+
+pub group-some : (g : Group) → groupNumber g ≡ 0 → ⊥
+group-some g e = omega (arith, group-range g .0)
+
+-- the group with a number
+abbrev groupBy : ℕ → Group
+groupBy n = getD (type ∷ type ∷ constant ∷ constraint ∷ operand ∷ declaration ∷ item ∷ []) n type
+
+group-back : (g : Group) → groupBy (groupNumber g) ≡ g
+group-back type = refl
+group-back constant = refl
+group-back constraint = refl
+group-back operand = refl
+group-back declaration = refl
+group-back item = refl
+
+pub group-same : (g h : Group) → groupNumber g ≡ groupNumber h → g ≡ h
+group-same g h e = sym (group-back g) ∙ ap groupBy e ∙ group-back h
+
+-- the first that passes from number i on, by what the test says of element i; past the end there is none
+module _ {A : Type 0} (test : A → Bool) where
+  pub find-from :
+      (l : List A) (i : ℕ) {x : A} → at l i ≡ some x → (b : Bool) → test x ≡ b →
+      find test (drop i l) ≡ cond b (at l i) (find test (drop (suc i) l))
+  unfolding at find
+  find-from [] i e b t = let z : _≡_ {A = ℕ} 0 1 = cc in absurd (omega arith)
+  find-from (y ∷ l) zero {x} e true t = let same : test y ≡ true = cc in rw (same, find)
+  find-from (y ∷ l) zero {x} e false t = let same : test y ≡ false = cc in rw (same, find)
+  find-from (y ∷ l) (suc i) e b t = find-from l i e b t
+
+  pub find-end : (l : List A) → find test (drop (length l) l) ≡ at l (length l)
+  unfolding at find
+  find-end [] = refl
+  find-end (x ∷ l) = find-end l
+
+-- a row by its numbers, as the code's table writes it
+abbrev numbersOf : Row → List ℕ
+numbersOf w =
+    groupNumber (w .group) ∷ w .kind ∷ w .low ∷ w .high
+    ∷ fieldNumber (w .a) ∷ fieldNumber (w .b) ∷ fieldNumber (w .c) ∷ fieldNumber (w .v) ∷ []
+
+unfoldable pub numbers : List (List ℕ)
+numbers = map numbersOf table
+
+-- row i of the code's table
+abbrev pub line : ℕ → List ℕ
+line i = getD numbers i []
+
+line-is : (i : ℕ) {w : Row} → rowAt i ≡ some w → line i ≡ numbersOf w
+unfolding rowAt numbers
+line-is i e = at-map numbersOf [] table i e
+
+-- what stands in a row's fields
+pub field-is : (i k : ℕ) → i < 38 → getD (line i) (4 + k) 0 ≡ fieldIn (rowAt i) k
+unfolding fieldIn
+field-is i k less =
+    let (w, e) = row-below i less in
+    ap (λ l. getD l (4 + k) 0) (line-is i e) ∙ sym (getD-drop 4 (numbersOf w) k 0) ∙ sym (ap (λ o. fieldIn o k) e)
+
+-- the record is of the row's kind, and its sub is one of the row's
+abbrev pub inLine : Record → List ℕ → Bool
+inLine r l = eqb (r .kind) (getD l 1 0) && leb (getD l 2 0) (r .sub) && leb (r .sub) (getD l 3 0)
+
+-- the row of a record is the first from number i on that it is in
+abbrev pub rowFrom : Record → ℕ → Option Row
+rowFrom r i = find (λ w. eqb (r .kind) (w .kind) && leb (w .low) (r .sub) && leb (r .sub) (w .high)) (drop i table)
+
+pub row-from : (r : Record) (i : ℕ) → i < 38 → (b : Bool) → inLine r (line i) ≡ b → rowFrom r i ≡ cond b (rowAt i) (rowFrom r (i + 1))
+unfolding rowAt
+row-from r i less b t =
+    let (w, e) = row-below i less in
+    rw (add-one i) (find-from _ table i e b (sym (ap (inLine r) (line-is i e)) ∙ t))
+
+pub row-end : (r : Record) → rowFrom r 38 ≡ rowAt 38
+unfolding rowAt
+row-end r = rw (← rows) (find-end _ table)
+
+-- the record is of the group whose number stands in its row
+pub group-is :
+    {n : ℕ} (r : Record) (i : ℕ) → i < 38 → rowAt i ≡ rowOf r →
+    (g : Group) → n ≡ groupNumber g → eqb n (getD (line i) 0 0) ≡ isOf g r
+unfolding isOf
+group-is r i less here g is =
+    let (w, e) = row-below i less in
+    (λ j. eqb (is j) (getD (line-is i e j) 0 0)) ∙ ap (inGroup g) (sym e ∙ here)
+
+pub group-none : {i : ℕ} (r : Record) → i ≡ 38 → rowAt i ≡ rowOf r → (g : Group) → false ≡ isOf g r
+unfolding isOf rowAt table at
+group-none r end here g = ap (inGroup g) (ap rowAt (sym end) ∙ here)
+
+-- what fields 0 to 7 ask of a value; the others ask nothing
+abbrev pub asked : ℕ → List Bool
+asked x =
+    eqb x 0 ∷ ltb x 2 ∷ ltb x 256 ∷ ltb x 4096 ∷ (ltb x 4096 || eqb x 65535) ∷ ltb x 65535 ∷ true ∷ ltb x (2 ^ 32) ∷ []
+
+asked-is : (g : Field) (x : ℕ) → getD (asked x) (fieldNumber g) true ≡ allows g x
+unfolding fieldNumber allows
+asked-is unused x = refl
+asked-is flag x = refl
+asked-is bits x = refl
+asked-is name x = refl
+asked-is name? x = refl
+asked-is string x = refl
+asked-is string? x = refl
+asked-is ordinal x = refl
+asked-is free x = refl
+asked-is (child g) x = List·getD-eq-default (asked x) true {n = 10 + groupNumber g} (omega arith)
+asked-is (child? g) x = List·getD-eq-default (asked x) true {n = 20 + groupNumber g} (omega arith)
+
+pub allowed : {f : ℕ} (k x : ℕ) → f ≡ k → (g : Field) → f ≡ fieldNumber g → getD (asked x) k true ≡ allows g x
+allowed k x is g e = ap (λ n. getD (asked x) n true) (sym is ∙ e) ∙ asked-is g x
+
+pub past-three : {k : ℕ} → (k ≡ 0 → ⊥) → (k ≡ 1 → ⊥) → (k ≡ 2 → ⊥) → (k ≡ 3 → ⊥) → 3 < k
+past-three p q r s = omega arith
+
+pub allowed-else : (x k : ℕ) → 3 < k → (k ≡ 4 → ⊥) → (k ≡ 5 → ⊥) → (k ≡ 7 → ⊥) → getD (asked x) k true ≡ true
+allowed-else x k h p q r = go (ltb k 8) refl
+  where
+    go : (b : Bool) → ltb k 8 ≡ b → getD (asked x) k true ≡ true
+    go true t = let six : k ≡ 6 = omega (arith, ltb-true k 8 t) in ap (λ n. getD (asked x) n true) six
+    go false t = List·getD-eq-default (asked x) true {n = k} (ltb-false k 8 t)
+
+pub fits-by :
+    (r : Record) (i : ℕ) {x y z u : Bool} → i < 38 →
+    ((g : Field) → fieldIn (rowAt i) 0 ≡ fieldNumber g → x ≡ allows g (r .a)) →
+    ((g : Field) → fieldIn (rowAt i) 1 ≡ fieldNumber g → y ≡ allows g (r .b)) →
+    ((g : Field) → fieldIn (rowAt i) 2 ≡ fieldNumber g → z ≡ allows g (r .c)) →
+    ((g : Field) → fieldIn (rowAt i) 3 ≡ fieldNumber g → u ≡ allows g (r .v)) →
+    x && y && z && u ≡ fits r (rowAt i)
+fits-by r i less p q s t =
+    let (w, e) = row-below i less in
+    (λ j. p (w .a) (field-a i e) j && q (w .b) (field-b i e) j && s (w .c) (field-c i e) j && t (w .v) (field-v i e) j)
+    ∙ ap (fits r) (sym e)
+
+-- the group of the child that a field names, by the field's number and by the value
+abbrev childBy : Bool → Bool → Bool → ℕ → ℕ
+childBy below there missing f = cond below 0 (cond there (f - 10) (cond missing 0 (f - 20)))
+
+child-is : (g : Field) (x : ℕ) → let f : ℕ = fieldNumber g in childBy (ltb f 10) (ltb f 20) (eqb x 65535) f ≡ groupIn (childIn g x)
+unfolding fieldNumber childIn
+child-is unused x = refl
+child-is flag x = refl
+child-is bits x = refl
+child-is name x = refl
+child-is name? x = refl
+child-is string x = refl
+child-is string? x = refl
+child-is ordinal x = refl
+child-is free x = refl
+child-is (child g) x =
+    let n : ℕ = groupNumber g in
+    let few = group-range g .1 in
+    rw (le-ltb (10 + n) 10 (omega arith), lt-ltb (10 + n) 20 (omega arith)) (omega arith)
+child-is (child? g) x =
+    let n : ℕ = groupNumber g in
+    rw (le-ltb (20 + n) 10 (omega arith), le-ltb (20 + n) 20 (omega arith)) (go (eqb x 65535))
+  where
+    go : (b : Bool) → cond b 0 (20 + groupNumber g - 20) ≡ groupIn (elim b [ true ↦ [] | false ↦ record { group = g; number = x } ∷ [] ])
+    go true = refl
+    go false = omega arith
+
+pub child-by :
+    {f : ℕ} (x : ℕ) (below there missing : Bool) → ltb f 10 ≡ below → ltb f 20 ≡ there → eqb x 65535 ≡ missing →
+    (g : Field) → f ≡ fieldNumber g → childBy below there missing f ≡ groupIn (childIn g x)
+child-by {f} x below there missing p q r g e =
+    sym (λ i. childBy (p i) (q i) (r i) f) ∙ ap (λ n. childBy (ltb n 10) (ltb n 20) (eqb x 65535) n) e ∙ child-is g x

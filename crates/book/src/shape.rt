@@ -1,0 +1,181 @@
+// The shapes of records: cause 4, and where the children of a record stand.
+
+ghost use mathlib.Core.Path.{_≡_};
+ghost use Prim.Native.Nat.{_≤_, _<_};
+ghost use Rattle.book.specs.Shape.{Field, Group, rowOf, allows, fits, groupNumber, isOf, childIn};
+ghost use Rattle.book.specs.Rows.{rowAt, fieldNumber, fieldIn, groupIn};
+use record::Record;
+
+// The groups of kinds.
+const TYPE: u8 = 1;
+
+const CONST: u8 = 2;
+
+const WHERE: u8 = 3;
+
+const OPERAND: u8 = 4;
+
+const DECL: u8 = 5;
+
+const ITEM: u8 = 6;
+
+// What a field may hold.
+const UNUSED: u8 = 0;
+
+const FLAG: u8 = 1;
+
+const BITS: u8 = 2;
+
+const NAME: u8 = 3;
+
+const MAYBE_NAME: u8 = 4;
+
+const STRING: u8 = 5;
+
+const MAYBE_STRING: u8 = 6;
+
+const ORDINAL: u8 = 7;
+
+const FREE: u8 = 8;
+
+// A child has the number of its group on top; one that may be missing stands higher than one that has to be there.
+const CHILD: u8 = 10;
+
+const MAYBE: u8 = 20;
+
+const A_TYPE: u8 = 11;
+
+const A_CONST: u8 = 12;
+
+const A_WHERE: u8 = 13;
+
+const AN_OPERAND: u8 = 14;
+
+const MAYBE_TYPE: u8 = 21;
+
+const MAYBE_WHERE: u8 = 23;
+
+// What stands for no child and for no name.
+const NONE: u16 = 65535;
+
+// The number of rows; as the number of a row it stands for none.
+pub const ROWS: u8 = 38;
+
+// Group, kind, first and last sub, then what a, b, c and v may hold.
+const TABLE: [[u8; 8]; 38] = [
+    [TYPE, 1, 0, 13, UNUSED, UNUSED, UNUSED, UNUSED], // primitive
+    [TYPE, 2, 0, 1, BITS, UNUSED, UNUSED, UNUSED], // sub-byte
+    [TYPE, 3, 0, 5, UNUSED, UNUSED, UNUSED, UNUSED], // semantic
+    [TYPE, 4, 0, 0, NAME, UNUSED, UNUSED, UNUSED], // named
+    [TYPE, 5, 0, 0, NAME, NAME, UNUSED, UNUSED], // qualified
+    [TYPE, 6, 0, 0, NAME, A_TYPE, UNUSED, UNUSED], // generic
+    [TYPE, 7, 0, 1, A_TYPE, UNUSED, UNUSED, UNUSED], // Optional, Array
+    [TYPE, 7, 2, 2, A_TYPE, UNUSED, UNUSED, FREE], // FixedArray
+    [TYPE, 7, 3, 9, A_TYPE, UNUSED, UNUSED, UNUSED], // Set, Vec2 to Mat4
+    [TYPE, 8, 0, 1, A_TYPE, A_TYPE, UNUSED, UNUSED], // Map, Result
+    [TYPE, 9, 0, 0, FREE, UNUSED, UNUSED, UNUSED], // inline bits
+    [CONST, 10, 0, 3, UNUSED, UNUSED, UNUSED, FREE], // Int, UInt, Float, Hex
+    [CONST, 10, 4, 4, UNUSED, UNUSED, UNUSED, FLAG], // Bool
+    [CONST, 11, 0, 0, NAME, UNUSED, UNUSED, UNUSED], // reference
+    [CONST, 12, 0, 9, A_CONST, A_CONST, UNUSED, UNUSED], // operation
+    [WHERE, 13, 0, 1, A_WHERE, A_WHERE, UNUSED, UNUSED], // And, Or
+    [WHERE, 13, 2, 2, A_WHERE, UNUSED, UNUSED, UNUSED], // Not
+    [WHERE, 14, 0, 5, AN_OPERAND, UNUSED, FLAG, UNUSED], // comparison
+    [WHERE, 15, 0, 1, AN_OPERAND, AN_OPERAND, FLAG, UNUSED], // range
+    [OPERAND, 16, 0, 1, UNUSED, UNUSED, UNUSED, FREE], // Int, Float
+    [OPERAND, 16, 2, 2, STRING, UNUSED, UNUSED, UNUSED], // String
+    [OPERAND, 16, 3, 3, UNUSED, UNUSED, UNUSED, FLAG], // Bool
+    [OPERAND, 16, 4, 4, UNUSED, UNUSED, UNUSED, FREE], // Value
+    [OPERAND, 16, 5, 5, NAME, UNUSED, UNUSED, UNUSED], // reference
+    [DECL, 20, 0, 0, NAME, UNUSED, UNUSED, UNUSED], // message
+    [DECL, 21, 0, 0, NAME, UNUSED, UNUSED, UNUSED], // union
+    [DECL, 22, 0, 0, NAME, A_TYPE, UNUSED, UNUSED], // newtype
+    [DECL, 23, 0, 0, NAME, A_TYPE, UNUSED, UNUSED], // alias
+    [DECL, 24, 0, 0, NAME, A_TYPE, A_CONST, UNUSED], // constant
+    [DECL, 25, 0, 0, NAME, UNUSED, UNUSED, UNUSED], // ambiguous name
+    [ITEM, 30, 0, 0, NAME, UNUSED, UNUSED, UNUSED], // type parameter
+    [ITEM, 31, 0, 0, NAME, A_TYPE, MAYBE_WHERE, ORDINAL], // field
+    [ITEM, 32, 0, 1, UNUSED, UNUSED, MAYBE_TYPE, ORDINAL], // tombstone
+    [ITEM, 33, 0, 0, NAME, UNUSED, UNUSED, ORDINAL], // variant
+    [ITEM, 34, 0, 4, UNUSED, UNUSED, UNUSED, UNUSED], // annotation
+    [ITEM, 35, 0, 1, MAYBE_NAME, UNUSED, UNUSED, FREE], // argument: Int, Hex
+    [ITEM, 35, 2, 2, MAYBE_NAME, UNUSED, UNUSED, UNUSED], // argument: other
+    [ITEM, 36, 0, 2, MAYBE_STRING, UNUSED, UNUSED, UNUSED], // tombstone argument
+];
+
+// The number of a record's row, by its kind and its sub.
+pub(crate) fn row_of(r: Record) -> u8
+    ensures { λ x. ⌜ (x ≤ 38) × (rowAt x ≡ rowOf r) ⌝ }
+{
+    let mut row: u8 = 0;
+    while row < ROWS {
+        let w = row as usize;
+        if (r.kind == TABLE[w][1]) & (TABLE[w][2] <= r.sub) & (r.sub <= TABLE[w][3]) {
+            return row;
+        }
+        row += 1;
+    }
+    ROWS
+}
+
+// What field 0 to 3 (a, b, c, v) of the records of a row may hold.
+pub(crate) fn field_of(row: u8, field: u8) -> u8
+    requires { ⌜ (row < 38) × (field < 4) ⌝ }
+    ensures { λ x. ⌜ x ≡ fieldIn (rowAt row) field ⌝ }
+{
+    let w = row as usize;
+    let f = field as usize;
+    TABLE[w][4 + f]
+}
+
+// Whether a field may hold x.
+fn allows(f: u8, x: u64) -> bool
+    ensures { λ r. ⌜ ((g : Field) → f ≡ fieldNumber g → r ≡ allows g x) ⌝ }
+{
+    match f {
+        UNUSED => x == 0,
+        FLAG => x < 2,
+        BITS => x < 256,
+        NAME => x < 4096,
+        MAYBE_NAME => (x < 4096) | (x == 65535),
+        STRING => x < 65535,
+        ORDINAL => x < 0x1_0000_0000,
+        _ => true,
+    }
+}
+
+// Whether every field of a record is inside the values of a row.
+pub(crate) fn fits(r: Record, row: u8) -> bool
+    requires { ⌜ row < 38 ⌝ }
+    ensures { λ x. ⌜ x ≡ fits r (rowAt row) ⌝ }
+{
+    allows(field_of(row, 0), r.a as u64)
+        & allows(field_of(row, 1), r.b as u64)
+        & allows(field_of(row, 2), r.c as u64)
+        & allows(field_of(row, 3), r.v)
+}
+
+// The group of the child that a field with the value x names, 0 where it names none.
+pub(crate) fn child_in(f: u8, x: u16) -> u8
+    ensures { λ r. ⌜ ((g : Field) → f ≡ fieldNumber g → r ≡ groupIn (childIn g x)) ⌝ }
+{
+    if f < CHILD {
+        return 0;
+    }
+    if f < MAYBE {
+        return f - CHILD;
+    }
+    if x == NONE { 0 } else { f - MAYBE }
+}
+
+// Whether a record is of a group.
+pub(crate) fn is_of(group: u8, r: Record) -> bool
+    ensures { λ x. ⌜ ((g : Group) → group ≡ groupNumber g → x ≡ isOf g r) ⌝ }
+{
+    let row = row_of(r);
+    if row == ROWS {
+        return false;
+    }
+    let w = row as usize;
+    group == TABLE[w][0]
+}
