@@ -9,14 +9,13 @@ use native.Mathlib.Numerals.{add-one}
 use native.Mathlib.Omega.{arith}
 use lib.Dec.{leb, ltb, eqb}
 use lib.ListN.{length, drop, getD, List·getD-eq-default}
-use lib.Seq.{getD-drop}
 use borrow.Author.Tests.{ltb-true, ltb-false, lt-ltb, le-ltb}
 use Rattle.record.specs.declared.Record.{Record}
 use Rattle.book.specs.Lists.{find, at}
 use Rattle.book.specs.Shape.{Group, type, constant, constraint, operand, declaration, item}
 use Rattle.book.specs.Shape.{Field, unused, flag, bits, name, name?, string, string?, ordinal, free, child, child?}
-use Rattle.book.specs.Shape.{Row, table, rowOf, allows, fits, childIn, groupNumber, inGroup, isOf}
-use Rattle.book.specs.Rows.{rowAt, fieldNumber, fieldIn, groupIn}
+use Rattle.book.specs.Shape.{Row, table, isRow, rowOf, allows, fits, childIn, groupNumber, inGroup, isOf}
+use Rattle.book.specs.Rows.{rowAt, fieldNumber, numbersOf, cellIn, groupIn}
 
 -- an element that is there stands at its number, and each number below the length has one
 module _ {A B : Type 0} (f : A → B) (d : B) where
@@ -43,21 +42,21 @@ row-below i less = at-below table i (rw rows less)
 
 -- the fields of a row, by number
 module _ (i : ℕ) {w : Row} (e : rowAt i ≡ some w) where
-  pub field-a : fieldIn (rowAt i) 0 ≡ fieldNumber (w .a)
-  unfolding fieldIn
-  field-a = ap (λ o. fieldIn o 0) e
+  cell-there : (k : ℕ) → cellIn (rowAt i) k ≡ getD (numbersOf w) k 0
+  unfolding cellIn
+  cell-there k = ap (λ o. cellIn o k) e
 
-  pub field-b : fieldIn (rowAt i) 1 ≡ fieldNumber (w .b)
-  unfolding fieldIn
-  field-b = ap (λ o. fieldIn o 1) e
+  pub field-a : cellIn (rowAt i) 4 ≡ fieldNumber (w .a)
+  field-a = cell-there 4
 
-  pub field-c : fieldIn (rowAt i) 2 ≡ fieldNumber (w .c)
-  unfolding fieldIn
-  field-c = ap (λ o. fieldIn o 2) e
+  pub field-b : cellIn (rowAt i) 5 ≡ fieldNumber (w .b)
+  field-b = cell-there 5
 
-  pub field-v : fieldIn (rowAt i) 3 ≡ fieldNumber (w .v)
-  unfolding fieldIn
-  field-v = ap (λ o. fieldIn o 3) e
+  pub field-c : cellIn (rowAt i) 6 ≡ fieldNumber (w .c)
+  field-c = cell-there 6
+
+  pub field-v : cellIn (rowAt i) 7 ≡ fieldNumber (w .v)
+  field-v = cell-there 7
 
 -- the numbers of the groups are 1 to 6
 pub group-range : (g : Group) → (0 < groupNumber g) × (groupNumber g ≤ 6)
@@ -102,43 +101,38 @@ module _ {A : Type 0} (test : A → Bool) where
   find-end [] = refl
   find-end (x ∷ l) = find-end l
 
--- a row by its numbers, as the code's table writes it
-abbrev numbersOf : Row → List ℕ
-numbersOf w =
-    groupNumber (w .group) ∷ w .kind ∷ w .low ∷ w .high
-    ∷ fieldNumber (w .a) ∷ fieldNumber (w .b) ∷ fieldNumber (w .c) ∷ fieldNumber (w .v) ∷ []
-
+-- the code's table
 unfoldable pub numbers : List (List ℕ)
 numbers = map numbersOf table
 
--- row i of the code's table
-abbrev pub line : ℕ → List ℕ
-line i = getD numbers i []
-
-line-is : (i : ℕ) {w : Row} → rowAt i ≡ some w → line i ≡ numbersOf w
+pub cell-is : (i k : ℕ) → i < 38 → getD (getD numbers i []) k 0 ≡ cellIn (rowAt i) k
 unfolding rowAt numbers
-line-is i e = at-map numbersOf [] table i e
-
--- what stands in a row's fields
-pub field-is : (i k : ℕ) → i < 38 → getD (line i) (4 + k) 0 ≡ fieldIn (rowAt i) k
-unfolding fieldIn
-field-is i k less =
+cell-is i k less =
     let (w, e) = row-below i less in
-    ap (λ l. getD l (4 + k) 0) (line-is i e) ∙ sym (getD-drop 4 (numbersOf w) k 0) ∙ sym (ap (λ o. fieldIn o k) e)
+    ap (λ l. getD l k 0) (at-map numbersOf [] table i e) ∙ sym (cell-there i e k)
 
--- the record is of the row's kind, and its sub is one of the row's
-abbrev pub inLine : Record → List ℕ → Bool
-inLine r l = eqb (r .kind) (getD l 1 0) && leb (getD l 2 0) (r .sub) && leb (r .sub) (getD l 3 0)
+-- a record is of a row, by the cells of the row
+pub in-row :
+    (r : Record) (i : ℕ) {kind low high : ℕ} →
+    kind ≡ cellIn (rowAt i) 1 → low ≡ cellIn (rowAt i) 2 → high ≡ cellIn (rowAt i) 3 → (w : Row) → rowAt i ≡ some w →
+    eqb (r .kind) kind && leb low (r .sub) && leb (r .sub) high ≡ isRow r w
+in-row r i p q s w e =
+    let k = p ∙ cell-there i e 1 in
+    let l = q ∙ cell-there i e 2 in
+    let h = s ∙ cell-there i e 3 in
+    λ j. eqb (r .kind) (k j) && leb (l j) (r .sub) && leb (r .sub) (h j)
 
--- the row of a record is the first from number i on that it is in
+-- the row of a record is the first from number i on that it is of
 abbrev pub rowFrom : Record → ℕ → Option Row
-rowFrom r i = find (λ w. eqb (r .kind) (w .kind) && leb (w .low) (r .sub) && leb (r .sub) (w .high)) (drop i table)
+rowFrom r i = find (isRow r) (drop i table)
 
-pub row-from : (r : Record) (i : ℕ) → i < 38 → (b : Bool) → inLine r (line i) ≡ b → rowFrom r i ≡ cond b (rowAt i) (rowFrom r (i + 1))
+pub row-from :
+    (r : Record) (i : ℕ) {x : Bool} → i < 38 → ((w : Row) → rowAt i ≡ some w → x ≡ isRow r w) →
+    (b : Bool) → x ≡ b → rowFrom r i ≡ cond b (rowAt i) (rowFrom r (i + 1))
 unfolding rowAt
-row-from r i less b t =
+row-from r i less is b t =
     let (w, e) = row-below i less in
-    rw (add-one i) (find-from _ table i e b (sym (ap (inLine r) (line-is i e)) ∙ t))
+    rw (add-one i) (find-from (isRow r) table i e b (sym (is w e) ∙ t))
 
 pub row-end : (r : Record) → rowFrom r 38 ≡ rowAt 38
 unfolding rowAt
@@ -146,12 +140,13 @@ row-end r = rw (← rows) (find-end _ table)
 
 -- the record is of the group whose number stands in its row
 pub group-is :
-    {n : ℕ} (r : Record) (i : ℕ) → i < 38 → rowAt i ≡ rowOf r →
-    (g : Group) → n ≡ groupNumber g → eqb n (getD (line i) 0 0) ≡ isOf g r
+    {n m : ℕ} (r : Record) (i : ℕ) → i < 38 → rowAt i ≡ rowOf r → m ≡ cellIn (rowAt i) 0 →
+    (g : Group) → n ≡ groupNumber g → eqb n m ≡ isOf g r
 unfolding isOf
-group-is r i less here g is =
+group-is r i less here cell g is =
     let (w, e) = row-below i less in
-    (λ j. eqb (is j) (getD (line-is i e j) 0 0)) ∙ ap (inGroup g) (sym e ∙ here)
+    let first = cell ∙ cell-there i e 0 in
+    (λ j. eqb (is j) (first j)) ∙ ap (inGroup g) (sym e ∙ here)
 
 pub group-none : {i : ℕ} (r : Record) → i ≡ 38 → rowAt i ≡ rowOf r → (g : Group) → false ≡ isOf g r
 unfolding isOf rowAt table at
@@ -191,10 +186,10 @@ allowed-else x k h p q r = go (ltb k 8) refl
 
 pub fits-by :
     (r : Record) (i : ℕ) {x y z u : Bool} → i < 38 →
-    ((g : Field) → fieldIn (rowAt i) 0 ≡ fieldNumber g → x ≡ allows g (r .a)) →
-    ((g : Field) → fieldIn (rowAt i) 1 ≡ fieldNumber g → y ≡ allows g (r .b)) →
-    ((g : Field) → fieldIn (rowAt i) 2 ≡ fieldNumber g → z ≡ allows g (r .c)) →
-    ((g : Field) → fieldIn (rowAt i) 3 ≡ fieldNumber g → u ≡ allows g (r .v)) →
+    ((g : Field) → cellIn (rowAt i) 4 ≡ fieldNumber g → x ≡ allows g (r .a)) →
+    ((g : Field) → cellIn (rowAt i) 5 ≡ fieldNumber g → y ≡ allows g (r .b)) →
+    ((g : Field) → cellIn (rowAt i) 6 ≡ fieldNumber g → z ≡ allows g (r .c)) →
+    ((g : Field) → cellIn (rowAt i) 7 ≡ fieldNumber g → u ≡ allows g (r .v)) →
     x && y && z && u ≡ fits r (rowAt i)
 fits-by r i less p q s t =
     let (w, e) = row-below i less in

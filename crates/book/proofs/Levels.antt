@@ -15,7 +15,7 @@ use borrow.Author.Tests.{ltb-true, ltb-false, leb-true, leb-false, eq-eqb, ne-eq
 use Rattle.record.specs.declared.Record.{Record}
 use Rattle.book.specs.Lists.{All, any}
 use Rattle.book.specs.Shape.{Group, groupNumber, Field, Child, childIn, childrenBy, children}
-use Rattle.book.specs.Rows.{rowAt, fieldNumber, fieldIn, groupIn}
+use Rattle.book.specs.Rows.{rowAt, fieldNumber, cellIn, groupIn}
 use Rattle.book.specs.Faults.{recordOf, deeperThan, depthFault}
 use Rattle.book.specs.Tables.{Depths, deepestOf}
 use Rattle.book.proofs.Cells.{row-below, field-a, field-b, field-c, group-some}
@@ -80,9 +80,9 @@ LevelsIn depths f x m = (g : Field) → f ≡ fieldNumber g → m ≡ deepestOf 
 -- the levels of the deepest child, by the fields of row i
 pub deepest-by :
     (depths : List ℕ) (r : Record) (i : ℕ) {f₀ f₁ f₂ a b c m x : ℕ} → i < 38 →
-    f₀ ≡ fieldIn (rowAt i) 0 → LevelsIn depths f₀ (r .a) a →
-    f₁ ≡ fieldIn (rowAt i) 1 → LevelsIn depths f₁ (r .b) b →
-    f₂ ≡ fieldIn (rowAt i) 2 → LevelsIn depths f₂ (r .c) c →
+    f₀ ≡ cellIn (rowAt i) 4 → LevelsIn depths f₀ (r .a) a →
+    f₁ ≡ cellIn (rowAt i) 5 → LevelsIn depths f₁ (r .b) b →
+    f₂ ≡ cellIn (rowAt i) 6 → LevelsIn depths f₂ (r .c) c →
     m ≡ max b c → x ≡ max a m → x ≡ deepestOf depths (childrenBy r (rowAt i))
 deepest-by depths r i less is-a at-a is-b at-b is-c at-c m-is x-is =
     let (w, e) = row-below i less in

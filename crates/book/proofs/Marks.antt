@@ -18,7 +18,7 @@ use Rattle.book.specs.Shape.{Group, Field, unused, flag, bits, name, nam
 use Rattle.book.specs.Shape.{Row, Child, childIn, childrenBy, children, groupNumber, isOf}
 use Rattle.book.specs.Blocks.{recordCount, records}
 use Rattle.book.specs.Faults.{recordOf, uses, usedBefore, usedTwice, isWrong, childFault}
-use Rattle.book.specs.Rows.{rowAt, fieldNumber, fieldIn, groupIn}
+use Rattle.book.specs.Rows.{rowAt, fieldNumber, cellIn, groupIn}
 use Rattle.book.specs.Tables.{Used, usedAgain, Takes}
 use Rattle.book.proofs.Cells.{field-a, field-b, field-c, group-some}
 use Rattle.book.proofs.Lists.{from-length}
@@ -288,7 +288,7 @@ Looked rs n f x w used used′ =
 -- the children by a row are looked at field by field, until one is wrong
 module _
     {rs : List Record} {n : ℕ} (r : Record) (i : ℕ) {row : Row} (here : rowAt i ≡ some row) {used used₁ : List Bool} {f : ℕ} {v : Bool}
-    (u : Used rs n [] used) (is : f ≡ fieldIn (rowAt i) 0) (looked : Looked rs n f (r .a) v used used₁) where
+    (u : Used rs n [] used) (is : f ≡ cellIn (rowAt i) 4) (looked : Looked rs n f (r .a) v used used₁) where
   in-a : Takes rs n [] (childIn (row .a) (r .a)) v used₁
   in-a = looked (row .a) [] (is ∙ field-a i here) u
 
@@ -297,7 +297,7 @@ module _
 
   module _
       (right : v ≡ false) {used₂ : List Bool} {g : ℕ} {w : Bool}
-      (is-b : g ≡ fieldIn (rowAt i) 1) (looked-b : Looked rs n g (r .b) w used₁ used₂) where
+      (is-b : g ≡ cellIn (rowAt i) 5) (looked-b : Looked rs n g (r .b) w used₁ used₂) where
     in-b : Takes rs n [] (childIn (row .a) (r .a) ++ childIn (row .b) (r .b)) w used₂
     in-b = then-right rs n right in-a (looked-b (row .b) _ (is-b ∙ field-b i here) (in-a .marked right))
 
@@ -305,7 +305,7 @@ module _
     wrong-b wrong = rw here (then-wrong rs n _ _ wrong in-b)
 
     pub in-c :
-        w ≡ false → {used₃ : List Bool} {h : ℕ} {x : Bool} → h ≡ fieldIn (rowAt i) 2 → Looked rs n h (r .c) x used₂ used₃ →
+        w ≡ false → {used₃ : List Bool} {h : ℕ} {x : Bool} → h ≡ cellIn (rowAt i) 6 → Looked rs n h (r .c) x used₂ used₃ →
         Takes rs n [] (childrenBy r (rowAt i)) x used₃
     in-c right-b is-c looked-c =
         rw here (then-right rs n right-b in-b (looked-c (row .c) _ (is-c ∙ field-c i here) (in-b .marked right-b)))

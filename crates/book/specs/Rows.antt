@@ -26,11 +26,16 @@ fieldNumber free = 8
 fieldNumber (child g) = 10 + groupNumber g
 fieldNumber (child? g) = 20 + groupNumber g
 
--- what fields 0 to 3 (a, b, c, v) of a row may hold, by number
-unfoldable pub fieldIn : Option Row → ℕ → ℕ
-fieldIn none i = 0
-fieldIn (some w) i =
-    getD (fieldNumber (w .a) ∷ fieldNumber (w .b) ∷ fieldNumber (w .c) ∷ fieldNumber (w .v) ∷ []) i 0
+-- a row by its numbers
+abbrev pub numbersOf : Row → List ℕ
+numbersOf w =
+    groupNumber (w .group) ∷ w .kind ∷ w .low ∷ w .high
+    ∷ fieldNumber (w .a) ∷ fieldNumber (w .b) ∷ fieldNumber (w .c) ∷ fieldNumber (w .v) ∷ []
+
+-- cell i of a row of the code's table: group, kind, first and last sub, and what a, b, c and v may hold
+unfoldable pub cellIn : Option Row → ℕ → ℕ
+cellIn none i = 0
+cellIn (some w) i = getD (numbersOf w) i 0
 
 -- the group of the first of some children by number, 0 where there is none
 abbrev pub groupIn : List Child → ℕ

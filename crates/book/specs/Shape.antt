@@ -97,9 +97,13 @@ table =
     ∷ row item 36 0 2 string? unused unused unused  -- tombstone argument
     ∷ []
 
--- the row of a record: its kind, and its sub within the row's
+-- the record is of the row's kind, and its sub is within the row's
+abbrev pub isRow : Record → Row → Bool
+isRow r w = eqb (r .kind) (w .kind) && leb (w .low) (r .sub) && leb (r .sub) (w .high)
+
+-- the row of a record
 unfoldable pub rowOf : Record → Option Row
-rowOf r = find (λ w. eqb (r .kind) (w .kind) && leb (w .low) (r .sub) && leb (r .sub) (w .high)) table
+rowOf r = find (isRow r) table
 
 -- every field inside the values of its row
 abbrev pub fits : Record → Option Row → Bool

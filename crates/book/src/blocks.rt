@@ -86,13 +86,15 @@ pub(crate) fn first_fault(book: &[u8], n: u16) -> Fault
 {
     let mut k: u16 = 0;
     while k < n {
-        if !check::check_holds(book, k) {
+        let fails = !check::check_holds(book, k);
+        let breaks = block_fault(book, k, n);
+        if fails {
             return Fault::At {
                 cause: Cause::Check,
                 place: k,
             };
         }
-        if block_fault(book, k, n) {
+        if breaks {
             return Fault::At {
                 cause: Cause::Block,
                 place: k,

@@ -9,6 +9,9 @@ ghost use Rattle.book.specs.Rows.{rowAt, fieldNumber};
 ghost use Rattle.book.specs.Tables.{Here, Used, Takes};
 use crate::scan::RECORDS;
 use crate::shape;
+use crate::shape::FIELD_A;
+use crate::shape::FIELD_B;
+use crate::shape::FIELD_C;
 use record::Record;
 
 // Whether the child that a field of record n names is a wrong one. If not, it is marked as used.
@@ -48,11 +51,11 @@ pub(crate) fn take_children(
     ensures { λ x. ⌜ (Used (records (now (book .entry))) n [] (now (used .entry)) →
         Takes (records (now (book .entry))) n [] (childrenBy r (rowAt row)) x (now (used .exit))) ⌝ }
 {
-    if take_child(book, n, shape::field_of(row, 0), r.a, used) {
+    if take_child(book, n, shape::cell(row, FIELD_A), r.a, used) {
         return true;
     }
-    if take_child(book, n, shape::field_of(row, 1), r.b, used) {
+    if take_child(book, n, shape::cell(row, FIELD_B), r.b, used) {
         return true;
     }
-    take_child(book, n, shape::field_of(row, 2), r.c, used)
+    take_child(book, n, shape::cell(row, FIELD_C), r.c, used)
 }

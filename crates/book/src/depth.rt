@@ -9,6 +9,9 @@ ghost use Rattle.book.specs.Rows.{rowAt, fieldNumber};
 ghost use Rattle.book.specs.Tables.{deepestOf};
 use crate::scan::RECORDS;
 use crate::shape;
+use crate::shape::FIELD_A;
+use crate::shape::FIELD_B;
+use crate::shape::FIELD_C;
 use record::Record;
 
 // Trees have at most so many levels.
@@ -37,9 +40,9 @@ pub(crate) fn deepest(r: Record, row: u8, depths: &[u8; RECORDS]) -> u8
     requires { ⌜ row < 38 ⌝ }
     ensures { λ x. ⌜ x ≡ deepestOf (now (depths .entry)) (childrenBy r (rowAt row)) ⌝ }
 {
-    let a = levels_in(shape::field_of(row, 0), r.a, depths);
-    let b = levels_in(shape::field_of(row, 1), r.b, depths);
-    let c = levels_in(shape::field_of(row, 2), r.c, depths);
+    let a = levels_in(shape::cell(row, FIELD_A), r.a, depths);
+    let b = levels_in(shape::cell(row, FIELD_B), r.b, depths);
+    let c = levels_in(shape::cell(row, FIELD_C), r.c, depths);
     larger(a, larger(b, c))
 }
 

@@ -12,6 +12,7 @@ mod children;
 mod depth;
 mod fault;
 mod follow;
+mod follow_table;
 mod names;
 mod scan;
 mod shape;

@@ -2,8 +2,9 @@
 
 ghost use mathlib.Core.Path.{_≡_};
 ghost use Prim.Native.Nat.{_≤_, _<_};
-ghost use Rattle.book.specs.Shape.{Field, Group, rowOf, allows, fits, groupNumber, isOf, childIn};
-ghost use Rattle.book.specs.Rows.{rowAt, fieldNumber, fieldIn, groupIn};
+ghost use mathlib.Core.Option.{some};
+ghost use Rattle.book.specs.Shape.{Field, Group, Row, isRow, rowOf, allows, fits, groupNumber, isOf, childIn};
+ghost use Rattle.book.specs.Rows.{rowAt, fieldNumber, cellIn, groupIn};
 use record::Record;
 
 // The groups of kinds.
@@ -61,7 +62,23 @@ const NONE: u16 = 65535;
 // The number of rows; as the number of a row it stands for none.
 pub const ROWS: u8 = 38;
 
-// Group, kind, first and last sub, then what a, b, c and v may hold.
+// The columns of the table: the group, the kind, the first and the last sub, and what a, b, c and v may hold.
+const GROUP: u8 = 0;
+
+const KIND: u8 = 1;
+
+const LOW: u8 = 2;
+
+const HIGH: u8 = 3;
+
+pub const FIELD_A: u8 = 4;
+
+pub const FIELD_B: u8 = 5;
+
+pub const FIELD_C: u8 = 6;
+
+const FIELD_V: u8 = 7;
+
 const TABLE: [[u8; 8]; 38] = [
     [TYPE, 1, 0, 13, UNUSED, UNUSED, UNUSED, UNUSED], // primitive
     [TYPE, 2, 0, 1, BITS, UNUSED, UNUSED, UNUSED], // sub-byte
@@ -103,29 +120,39 @@ const TABLE: [[u8; 8]; 38] = [
     [ITEM, 36, 0, 2, MAYBE_STRING, UNUSED, UNUSED, UNUSED], // tombstone argument
 ];
 
-// The number of a record's row, by its kind and its sub.
+// A number of a row of the table.
+pub(crate) fn cell(row: u8, column: u8) -> u8
+    requires { ⌜ (row < 38) × (column < 8) ⌝ }
+    ensures { λ x. ⌜ x ≡ cellIn (rowAt row) column ⌝ }
+{
+    let w = row as usize;
+    let k = column as usize;
+    TABLE[w][k]
+}
+
+// Whether a record is of a row, by its kind and its sub.
+fn is_row(r: Record, row: u8) -> bool
+    requires { ⌜ row < 38 ⌝ }
+    ensures { λ x. ⌜ ((w : Row) → rowAt row ≡ some w → x ≡ isRow r w) ⌝ }
+{
+    let kind = cell(row, KIND);
+    let low = cell(row, LOW);
+    let high = cell(row, HIGH);
+    (r.kind == kind) & (low <= r.sub) & (r.sub <= high)
+}
+
+// The number of a record's row.
 pub(crate) fn row_of(r: Record) -> u8
     ensures { λ x. ⌜ (x ≤ 38) × (rowAt x ≡ rowOf r) ⌝ }
 {
     let mut row: u8 = 0;
     while row < ROWS {
-        let w = row as usize;
-        if (r.kind == TABLE[w][1]) & (TABLE[w][2] <= r.sub) & (r.sub <= TABLE[w][3]) {
+        if is_row(r, row) {
             return row;
         }
         row += 1;
     }
     ROWS
-}
-
-// What field 0 to 3 (a, b, c, v) of the records of a row may hold.
-pub(crate) fn field_of(row: u8, field: u8) -> u8
-    requires { ⌜ (row < 38) × (field < 4) ⌝ }
-    ensures { λ x. ⌜ x ≡ fieldIn (rowAt row) field ⌝ }
-{
-    let w = row as usize;
-    let f = field as usize;
-    TABLE[w][4 + f]
 }
 
 // Whether a field may hold x.
@@ -149,10 +176,10 @@ pub(crate) fn fits(r: Record, row: u8) -> bool
     requires { ⌜ row < 38 ⌝ }
     ensures { λ x. ⌜ x ≡ fits r (rowAt row) ⌝ }
 {
-    allows(field_of(row, 0), r.a as u64)
-        & allows(field_of(row, 1), r.b as u64)
-        & allows(field_of(row, 2), r.c as u64)
-        & allows(field_of(row, 3), r.v)
+    allows(cell(row, FIELD_A), r.a as u64)
+        & allows(cell(row, FIELD_B), r.b as u64)
+        & allows(cell(row, FIELD_C), r.c as u64)
+        & allows(cell(row, FIELD_V), r.v)
 }
 
 // The group of the child that a field with the value x names, 0 where it names none.
@@ -176,6 +203,5 @@ pub(crate) fn is_of(group: u8, r: Record) -> bool
     if row == ROWS {
         return false;
     }
-    let w = row as usize;
-    group == TABLE[w][0]
+    group == cell(row, GROUP)
 }

@@ -25,7 +25,7 @@ loop-holds c = let a = c .before .args in (omega arith, scan-start (holds (now (
 returns : tie.Need-returns Inv-loop μ-loop
 unfolding refusalOf causeOf
 returns c =
-    let p = c .before in
+    let p = c .before .before in
     let l = p .before .before .loop in
     let a = p .before .before .before .before .args in
     check-first (now (a .book)) (a .n) (l .k) (l .inv) (omega arith)
@@ -38,8 +38,8 @@ returns-2 c =
     let l = p .before .before .loop in
     let a = p .before .before .before .before .args in
     block-first (now (a .book)) (a .n) (l .k) (l .inv) (omega arith)
-    (sym (p .check-holds .ensures) ∙ not-false (p .check-holds .result) (c .before .before .if1 .left))
-    (sym (c .before .block-fault .ensures) ∙ c .if2 .taken)
+    (sym (p .check-holds .ensures) ∙ not-false (p .check-holds .result) (c .before .if1 .left))
+    (sym (c .before .before .block-fault .ensures) ∙ c .if2 .taken)
 
 loop-again : tie.Need-loop-again Inv-loop μ-loop
 loop-again c =
@@ -47,8 +47,8 @@ loop-again c =
     let l = p .before .before .loop in
     let a = p .before .before .before .before .args in
     block-passed (now (a .book)) (a .n) (l .k) (l .inv) (omega arith)
-    (sym (p .check-holds .ensures) ∙ not-false (p .check-holds .result) (c .before .before .if1 .left))
-    (sym (c .before .block-fault .ensures) ∙ c .if2 .left)
+    (sym (p .check-holds .ensures) ∙ not-false (p .check-holds .result) (c .before .if1 .left))
+    (sym (c .before .before .block-fault .ensures) ∙ c .if2 .left)
 
 returns-3 : tie.Need-returns-3 Inv-loop μ-loop
 unfolding refusalOf
@@ -65,8 +65,8 @@ first-fault-spec =
     μ-loop
     loop-holds
     (λ c κs. search needs)
-    returns
     (λ c κs. search needs)
+    returns
     returns-2
     (λ c. search needs)
     (λ c. search needs)

@@ -10,15 +10,15 @@ returns : tie.Need-returns
 returns c u =
     let s = c .before .before .before .before .before in
     wrong-a (s .args .r) (s .args .row) (row-below (s .args .row) (s .pre .1) .1) u
-    (c .before .before .before .field-of .ensures) (c .before .take-child .ensures) (c .if1 .taken)
+    (c .before .before .before .cell .ensures) (c .before .take-child .ensures) (c .if1 .taken)
 
 returns-2 : tie.Need-returns-2
 returns-2 c u =
     let a = c .before .before .before .before in
     let s = a .before .before .before .before .before in
     wrong-b (s .args .r) (s .args .row) (row-below (s .args .row) (s .pre .1) .1) u
-    (a .before .before .before .field-of .ensures) (a .before .take-child .ensures) (a .if1 .left)
-    (c .before .before .before .field-of2 .ensures) (c .before .take-child2 .ensures) (c .if2 .taken)
+    (a .before .before .before .cell .ensures) (a .before .take-child .ensures) (a .if1 .left)
+    (c .before .before .before .cell2 .ensures) (c .before .take-child2 .ensures) (c .if2 .taken)
 
 returns-3 : tie.Need-returns-3
 returns-3 c u =
@@ -26,9 +26,9 @@ returns-3 c u =
     let a = b .before .before .before .before in
     let s = a .before .before .before .before .before in
     in-c (s .args .r) (s .args .row) (row-below (s .args .row) (s .pre .1) .1) u
-    (a .before .before .before .field-of .ensures) (a .before .take-child .ensures) (a .if1 .left)
-    (b .before .before .before .field-of2 .ensures) (b .before .take-child2 .ensures) (b .if2 .left)
-    (c .before .before .field-of3 .ensures) (c .take-child3 .ensures)
+    (a .before .before .before .cell .ensures) (a .before .take-child .ensures) (a .if1 .left)
+    (b .before .before .before .cell2 .ensures) (b .before .take-child2 .ensures) (b .if2 .left)
+    (c .before .before .cell3 .ensures) (c .take-child3 .ensures)
 
 pub take-children-spec : {M : Type 1} → statement M
 take-children-spec =

@@ -6,20 +6,20 @@ use Rattle.book.proofs.Levels.{deepest-by}
 use Rattle.book.proofs.depth.deepest.Statement.{statement}
 use Rattle.book.proofs.depth.deepest.Tie as tie
 
-field-of-requires : tie.Need-field-of-requires
-field-of-requires c κs = search needs
+cell-requires : tie.Need-cell-requires
+cell-requires c κs = search needs
 
 levels-in-requires : tie.Need-levels-in-requires
 levels-in-requires c κs = search needs
 
-field-of-requires-2 : tie.Need-field-of-requires-2
-field-of-requires-2 c κs = search needs
+cell-requires-2 : tie.Need-cell-requires-2
+cell-requires-2 c κs = search needs
 
 levels-in-requires-2 : tie.Need-levels-in-requires-2
 levels-in-requires-2 c κs = search needs
 
-field-of-requires-3 : tie.Need-field-of-requires-3
-field-of-requires-3 c κs = search needs
+cell-requires-3 : tie.Need-cell-requires-3
+cell-requires-3 c κs = search needs
 
 levels-in-requires-3 : tie.Need-levels-in-requires-3
 levels-in-requires-3 c κs = search needs
@@ -38,20 +38,20 @@ returns c =
     let start = first .before .before .before in
     let a = start .args in
     deepest-by (now (a .depths)) (a .r) (a .row) (start .pre)
-    (first .before .before .field-of .ensures) (first .levels-in .ensures)
-    (second .before .before .field-of2 .ensures) (second .levels-in2 .ensures)
-    (third .before .before .field-of3 .ensures) (third .levels-in3 .ensures)
+    (first .before .before .cell .ensures) (first .levels-in .ensures)
+    (second .before .before .cell2 .ensures) (second .levels-in2 .ensures)
+    (third .before .before .cell3 .ensures) (third .levels-in3 .ensures)
     (c .before .larger .ensures) (c .larger2 .ensures)
 
 pub deepest-spec : {M : Type 1} → statement M
 deepest-spec =
     tie.close
     (tie.spec
-    field-of-requires
+    cell-requires
     levels-in-requires
-    field-of-requires-2
+    cell-requires-2
     levels-in-requires-2
-    field-of-requires-3
+    cell-requires-3
     levels-in-requires-3
     larger-requires
     larger-requires-2

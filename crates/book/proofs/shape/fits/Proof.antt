@@ -16,10 +16,10 @@ returns c =
     (start .args .r)
     (start .args .row)
     (start .pre)
-    (λ g e. c1 .allows .ensures g (c1 .before .before .field-of .ensures ∙ e))
-    (λ g e. c2 .allows2 .ensures g (c2 .before .before .field-of2 .ensures ∙ e))
-    (λ g e. c3 .allows3 .ensures g (c3 .before .before .field-of3 .ensures ∙ e))
-    (λ g e. c .allows4 .ensures g (c .before .field-of4 .ensures ∙ e))
+    (λ g e. c1 .allows .ensures g (c1 .before .before .cell .ensures ∙ e))
+    (λ g e. c2 .allows2 .ensures g (c2 .before .before .cell2 .ensures ∙ e))
+    (λ g e. c3 .allows3 .ensures g (c3 .before .before .cell3 .ensures ∙ e))
+    (λ g e. c .allows4 .ensures g (c .before .cell4 .ensures ∙ e))
 
 pub fits-spec : {M : Type 1} → statement M
 fits-spec =

@@ -1,13 +1,12 @@
--- `book::shape::row_of` meets its contract. The loop's invariant: the record's row is the first from this one on that fits it.
+-- `book::shape::row_of` meets its contract. The loop's invariant: the record's row is the first from this one on that it is of.
 -- Assumes nothing.
 use Prim.Native.Nat.{_-_, _≤_}
 use mathlib.Core.Bool.{true, false}
 use mathlib.Core.Path.{_≡_, refl, sym, ap, _∙_}
 use native.Mathlib.Omega.{arith}
 use borrow.Author.Needs.{needs}
-use Rattle.book.specs.Shape.{table, rowOf}
-use Rattle.book.specs.Rows.{fieldNumber}
-use Rattle.book.proofs.Cells.{numbers, rowFrom, row-from, row-end}
+use Rattle.book.specs.Shape.{rowOf}
+use Rattle.book.proofs.Cells.{rowFrom, row-from, row-end}
 use Rattle.book.proofs.shape.row_of.Statement.{statement}
 use Rattle.book.proofs.shape.row_of.Tie as tie
 
@@ -22,18 +21,18 @@ unfolding rowOf
 loop-holds c = (search needs, refl)
 
 returns : tie.Need-returns Inv-loop μ-loop
-unfolding numbers table fieldNumber
 returns c =
-    let p = c .before .before .before .before .before .before .before in
+    let p = c .before .before in
     let l = p .before .loop in
-    (l .inv .0, sym (l .inv .1 ∙ row-from (p .before .before .args .r) (l .row) (p .loop-test .taken) true (c .if1 .taken)))
+    let r = p .before .before .args .r in
+    (l .inv .0, sym (l .inv .1 ∙ row-from r (l .row) (p .loop-test .taken) (c .before .is-row .ensures) true (c .if1 .taken)))
 
 loop-again : tie.Need-loop-again Inv-loop μ-loop
-unfolding numbers table fieldNumber
 loop-again c =
-    let p = c .before .before .before .before .before .before .before in
+    let p = c .before .before in
     let l = p .before .loop in
-    (omega arith, l .inv .1 ∙ row-from (p .before .before .args .r) (l .row) (p .loop-test .taken) false (c .if1 .left))
+    let r = p .before .before .args .r in
+    (omega arith, l .inv .1 ∙ row-from r (l .row) (p .loop-test .taken) (c .before .is-row .ensures) false (c .if1 .left))
 
 returns-2 : tie.Need-returns-2 Inv-loop μ-loop
 returns-2 c =
@@ -49,16 +48,7 @@ row-of-spec =
     Inv-loop
     μ-loop
     loop-holds
-    (λ c. search needs)
-    (λ c. search needs)
-    (λ c. search needs)
-    (λ c. search needs)
-    (λ c. search needs)
-    (λ c. search needs)
-    (λ c. search needs)
-    (λ c. search needs)
-    (λ c. search needs)
-    (λ c. search needs)
+    (λ c κs. search needs)
     returns
     (λ c. omega arith)
     (λ c. omega arith)

@@ -5,8 +5,8 @@ use borrow.Author.Needs.{needs}
 use Rattle.book.specs.Lists.{any}
 use Rattle.book.specs.Follow.{behind, followOf}
 use Rattle.book.proofs.Places.{table-at}
-use Rattle.book.proofs.follow.follows.Statement.{statement}
-use Rattle.book.proofs.follow.follows.Tie as tie
+use Rattle.book.proofs.follow_table.follows.Statement.{statement}
+use Rattle.book.proofs.follow_table.follows.Tie as tie
 
 mul-result : tie.Need-mul-result
 mul-result c = search needs
