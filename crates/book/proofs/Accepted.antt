@@ -1,14 +1,14 @@
 -- An accepted book is readable: none of causes 1 to 8 holds anywhere, and what that says of its records.
 -- Assumes nothing.
-use Prim.Native.Nat.{ℕ, _+_, _-_, _*_, _/_, _%_, _≤_, _<_}
+use Prim.Native.Nat.{ℕ, _+_, _-_, _<_}
 use mathlib.Core.Bool.{Bool, true, false, not, _&&_, _||_, or-false, false≢true}
 use mathlib.Core.List.{List, [], _∷_, _++_, flatMap}
 use mathlib.Core.Option.{Option, some, none, orElse, Option·some-ne-none}
-use mathlib.Core.Path.{_≡_, refl, sym, ap, _∙_, subst}
+use mathlib.Core.Path.{_≡_, refl, sym, _∙_}
 use native.Mathlib.Omega.{arith}
 use lib.Dec.{leb, ltb, eqb}
 use lib.ListN.{length}
-use borrow.Author.Tests.{leb-false, ltb-true, eqb-true, not-false, lt-ltb}
+use borrow.Author.Tests.{leb-false, ltb-true, not-false, lt-ltb}
 use Rattle.record.specs.declared.Record.{Record}
 use Rattle.book.specs.Lists.{All, any, find, upTo}
 use Rattle.book.specs.Shape.{Field, Row, Child, allows, rowOf, fits, wellShaped, children, nameIn, namesBy, names, isOf}
@@ -19,7 +19,7 @@ use Rattle.book.specs.Faults.{follows, under, fieldsGoHere, mayFollow, f
 use Rattle.book.specs.Refusal.{Cause, Refusal, bookLength, at, atBlock, atRecord, faulty, holds, firstRefusal}
 use Rattle.book.specs.Refusal as cause
 use Rattle.book.specs.First.{hasPlace}
-use Rattle.book.specs.Trees.{IsChild, IsRecord, InRange, Readable, AcceptedIsReadable}
+use Rattle.book.specs.Trees.{IsChild, IsRecord, InRange, AcceptedIsReadable}
 use Rattle.book.proofs.First.{passed-by-all}
 use Rattle.book.proofs.Lists.{all-append}
 use Rattle.book.proofs.Records.{records-length}

@@ -1,17 +1,17 @@
 -- The answer by parts: the length, the blocks, the records.
 -- Assumes nothing.
-use Prim.Native.Nat.{ℕ, _+_, _-_, _*_, _/_, _%_, _≤_, _<_}
+use Prim.Native.Nat.{ℕ, _+_, _-_, _*_, _%_, _≤_, _<_}
 use mathlib.Core.Bool.{Bool, true, false, cond, not, _&&_, _||_, false≢true, true≢false}
 use mathlib.Core.List.{List, flatMap, List·Memᴰ·head, List·Memᴰ·tail}
-use mathlib.Core.Option.{Option, some, none, orElse, Option·some-ne-none}
+use mathlib.Core.Option.{Option, some, none, orElse}
 use mathlib.Core.Path.{_≡_, refl, sym, ap, ap₂, _∙_, subst}
 use native.Mathlib.Omega.{arith}
 use lib.Dec.{eqb, leb, ltb}
 use lib.ListN.{length}
-use borrow.Author.Tests.{eqb-false, ltb-false, leb-true, eqb-true, eq-eqb, not-false, not-true}
+use borrow.Author.Tests.{eqb-false, ltb-false, leb-true, eqb-true, eq-eqb, not-false}
 use Rattle.book.specs.declared.Cause as code
 use Rattle.book.specs.declared.Reading.the-variants.{Accepted, Refused}
-use Rattle.book.specs.Lists.{find, from, upTo}
+use Rattle.book.specs.Lists.{find, upTo}
 use Rattle.record.specs.Bytes.{littleEndian}
 use Rattle.book.specs.Blocks as of
 use Rattle.book.specs.Blocks.{lengthFault, blocks, recordsIn, countHolds, byte3Holds, restHolds, blockFault, recordCount, wildcards}

@@ -1,13 +1,13 @@
 -- One record after the other: which fault of a record comes first, and that the tables hold what the next one asks for.
 -- Assumes nothing.
 use Prim.Native.Nat.{ℕ, suc, _+_, _≤_, _<_}
-use mathlib.Core.Bool.{Bool, true, false, cond, not, _||_, true≢false, false≢true}
+use mathlib.Core.Bool.{Bool, true, false, cond, not}
 use mathlib.Core.List.{List, [], flatMap}
 use mathlib.Core.Option.{Option, some, none, Option·none-ne-some, Option·some-ne-none}
 use mathlib.Core.Path.{_≡_, refl, sym, ap, _∙_, subst}
 use native.Mathlib.Numerals.{add-one}
 use native.Mathlib.Omega.{arith}
-use lib.Dec.{leb, ltb, eqb}
+use lib.Dec.{leb, ltb}
 use lib.ListN.{length, set}
 use borrow.Author.Tests.{leb-false, ltb-false, not-false}
 use Rattle.record.specs.declared.Record.{Record}
@@ -70,106 +70,146 @@ turned-back c first e =
 -- what is learnt of record n, which is r, in turn; `row` is the number of its row
 module _
     {book : List ℕ} {n : ℕ} {r : Record} {p : Place} {used₀ names₀ : List Bool} {depths₀ : List ℕ}
-    (ready : Ready book n r p used₀ names₀ depths₀) (row : ℕ) (found : rowAt row ≡ rowOf r) where
+    (ready : Ready book n r p used₀ names₀ depths₀) (row : ℕ) where
   abbrev rs : List Record
   rs = records book
+
+  -- its shape is right
+  pub record Shaped : Type 0 where
+    pub found : rowAt row ≡ rowOf r
+    pub fitting : fits r (rowAt row) ≡ true
+
+  -- and so are its children, which are marked
+  pub record Right (used : List Bool) : Type 0 where
+    pub shaped : Shaped
+    pub taken : Takes rs n [] (childrenBy r (rowAt row)) false used
+
+  -- and it may stand where it stands
+  pub record Stands (used : List Bool) : Type 0 where
+    pub right : Right used
+    pub follows : mayFollow r (before rs n) ≡ true
+
+  -- and declares no name again
+  pub record New (used : List Bool) : Type 0 where
+    pub stands : Stands used
+    pub new : nameFault rs n ≡ false
 
   -- the fault of record n that comes first
   abbrev Faulty : code.Cause → Type 0
   Faulty c = find (holds book) (atRecord n) ≡ some (at (causeOf c) n)
 
-  shaped-by : {b : Bool} → fits r (rowAt row) ≡ b → wellShaped (recordOf rs n) ≡ b
-  unfolding wellShaped
-  shaped-by {b} e = subst (λ r. fits r (rowOf r) ≡ b) (ready .is) (subst (λ o. fits r o ≡ b) found e)
+  followed-by : {b : Bool} → mayFollow r (before rs n) ≡ b → followFault rs n ≡ not b
+  unfolding followFault
+  followed-by {b} e = ap not (subst (λ r. mayFollow r (before rs n) ≡ b) (ready .is) e)
 
-  children-by : childrenBy r (rowAt row) ≡ children (recordOf rs n)
-  unfolding children
-  children-by = ap (childrenBy r) found ∙ ap (λ r. childrenBy r (rowOf r)) (ready .is)
+  module _ (found : rowAt row ≡ rowOf r) where
+    shaped-by : {b : Bool} → fits r (rowAt row) ≡ b → wellShaped (recordOf rs n) ≡ b
+    unfolding wellShaped
+    shaped-by {b} e = subst (λ r. fits r (rowOf r) ≡ b) (ready .is) (subst (λ o. fits r o ≡ b) found e)
 
-  pub few-levels : {d : ℕ} → d ≡ deepestOf depths₀ (childrenBy r (rowAt row)) → d ≤ 65
-  few-levels e = omega (arith, deepest-few (ready .kept .depths-are) (childrenBy r (rowAt row)))
+    children-by : childrenBy r (rowAt row) ≡ children (recordOf rs n)
+    unfolding children
+    children-by = ap (childrenBy r) found ∙ ap (λ r. childrenBy r (rowOf r)) (ready .is)
 
-  pub not-shaped : fits r (rowAt row) ≡ false → Faulty Shape
-  unfolding firstOf shapeFault causeOf
-  not-shaped e = first-is book n (ap not (shaped-by e)) refl refl refl refl
+    pub few-levels : {d : ℕ} → d ≡ deepestOf depths₀ (childrenBy r (rowAt row)) → d ≤ 65
+    few-levels e = omega (arith, deepest-few (ready .kept .depths-are) (childrenBy r (rowAt row)))
 
-  pub no-row : row ≡ 38 → Faulty Shape
-  unfolding rowAt table lists.at
-  no-row e = not-shaped (ap (λ k. fits r (rowAt k)) e)
+    pub not-shaped : fits r (rowAt row) ≡ false → Faulty Shape
+    unfolding firstOf shapeFault causeOf
+    not-shaped e = first-is book n (ap not (shaped-by e)) refl refl refl refl
 
-  module _ (fitting : fits r (rowAt row) ≡ true) where
+    pub no-row : row ≡ 38 → Faulty Shape
+    unfolding rowAt table lists.at
+    no-row e = not-shaped (ap (λ k. fits r (rowAt k)) e)
+
+module _
+    {book : List ℕ} {n : ℕ} {r : Record} {p : Place} {used₀ names₀ : List Bool} {depths₀ : List ℕ}
+    {ready : Ready book n r p used₀ names₀ depths₀} {row : ℕ} where
+  module _ (s : Shaped ready row) where
     pub well-shaped : wellShaped r ≡ true
-    well-shaped = subst (λ r. wellShaped r ≡ true) (sym (ready .is)) (shaped-by fitting)
+    well-shaped = subst (λ r. wellShaped r ≡ true) (sym (ready .is)) (shaped-by ready row (s .found) (s .fitting))
 
-    shaped : shapeFault rs n ≡ false
+    shaped : shapeFault (records book) n ≡ false
     unfolding shapeFault
-    shaped = ap not (shaped-by fitting)
+    shaped = ap not (shaped-by ready row (s .found) (s .fitting))
 
-    taken-by : {w : Bool} {used : List Bool} → Takes rs n [] (childrenBy r (rowAt row)) w used → w ≡ childFault rs n
-    taken-by {w} {used} t = child-fault rs n w used (subst (λ cs. Takes rs n [] cs w used) children-by t)
+    taken-by : {w : Bool} {used : List Bool} → Takes (records book) n [] (childrenBy r (rowAt row)) w used → childFault (records book) n ≡ w
+    taken-by {w} {used} t =
+        sym (child-fault (records book) n w used
+        (subst (λ cs. Takes (records book) n [] cs w used) (children-by ready row (s .found)) t))
 
-    pub wrong-child : {w : Bool} {used : List Bool} → Takes rs n [] (childrenBy r (rowAt row)) w used → w ≡ true → Faulty Child
+    pub wrong-child :
+        {w : Bool} {used : List Bool} → Takes (records book) n [] (childrenBy r (rowAt row)) w used → w ≡ true → Faulty ready row Child
     unfolding firstOf causeOf
-    wrong-child t e = first-is book n shaped (sym (taken-by t) ∙ e) refl refl refl
+    wrong-child t e = first-is book n shaped (taken-by t ∙ e) refl refl refl
 
-    module _ {w : Bool} {used : List Bool} (taken : Takes rs n [] (childrenBy r (rowAt row)) w used) (fine : w ≡ false) where
-      right : childFault rs n ≡ false
-      right = sym (taken-by taken) ∙ fine
+    pub right-children :
+        {w : Bool} {used : List Bool} → Takes (records book) n [] (childrenBy r (rowAt row)) w used → w ≡ false → Right ready row used
+    right-children {used = used} t e =
+        record { shaped = s; taken = subst (λ w. Takes (records book) n [] (childrenBy r (rowAt row)) w used) e t }
 
-      earlier : All (λ c. c .number < n) (children (recordOf rs n))
+  module _ {used : List Bool} where
+    right : Right ready row used → childFault (records book) n ≡ false
+    right t = taken-by (t .shaped) (t .taken)
+
+    pub not-following : Right ready row used → mayFollow r (before (records book) n) ≡ false → Faulty ready row Follow
+    unfolding firstOf causeOf
+    not-following t e = first-is book n (shaped (t .shaped)) (right t) (followed-by ready row e) refl refl
+
+    pub named-again : Stands ready row used → nameFault (records book) n ≡ true → Faulty ready row Name
+    unfolding firstOf causeOf
+    named-again t e = first-is book n (shaped (t .right .shaped)) (right (t .right)) (followed-by ready row (t .follows)) e refl
+
+    module _ (t : New ready row used) {d : ℕ} (deepest : d ≡ deepestOf depths₀ (childrenBy r (rowAt row))) where
+      abbrev tooDeep : Bool
+      tooDeep = cond (ltb (r .kind) 20) (leb 64 d) (ltb 64 d)
+
+      abbrev of : Right ready row used
+      of = t .stands .right
+
+      same-children : childrenBy r (rowAt row) ≡ children (recordOf (records book) n)
+      same-children = children-by ready row (of .shaped .found)
+
+      earlier : All (λ c. c .number < n) (children (recordOf (records book) n))
       unfolding childFault
-      earlier = none-passes _ (λ c e. leb-false _ _ (both-not _ _ (both-not _ _ e .0) .0)) _ (both-not _ _ right .0)
+      earlier = none-passes _ (λ c e. leb-false _ _ (both-not _ _ (both-not _ _ e .0) .0)) _ (both-not _ _ (right of) .0)
 
-      followed-by : {b : Bool} → mayFollow r (before rs n) ≡ b → followFault rs n ≡ not b
-      unfolding followFault
-      followed-by {b} e = ap not (subst (λ r. mayFollow r (before rs n) ≡ b) (ready .is) e)
+      deepest-is : d ≡ deepestOf depths₀ (children (recordOf (records book) n))
+      deepest-is = deepest ∙ ap (deepestOf depths₀) same-children
 
-      pub not-following : mayFollow r (before rs n) ≡ false → Faulty Follow
+      first-by : {b : Bool} → tooDeep ≡ b → find (holds book) (atRecord n) ≡ firstOf n false false false false b
+      first-by e =
+          first-is book n (shaped (of .shaped)) (right of) (followed-by ready row (t .stands .follows)) (t .new)
+          (depth-fault (records book) n depths₀ (ready .kept .depths-are) earlier
+          ∙ sym (λ i. cond (ltb ((ready .is i) .kind) 20) (leb 64 (deepest-is i)) (ltb 64 (deepest-is i)))
+          ∙ e)
+
+      pub too-deep : tooDeep ≡ true → Faulty ready row Depth
       unfolding firstOf causeOf
-      not-following e = first-is book n shaped right (followed-by e) refl refl
+      too-deep e = first-by e
 
-      module _ (follows : mayFollow r (before rs n) ≡ true) where
-        pub named-again : nameFault rs n ≡ true → Faulty Name
-        unfolding firstOf causeOf
-        named-again e = first-is book n shaped right (followed-by follows) e refl
+      not-deeper : (b : Bool) (d : ℕ) → cond b (leb 64 d) (ltb 64 d) ≡ false → d ≤ 64
+      not-deeper true d e = omega (arith, leb-false 64 d e)
+      not-deeper false d e = omega (arith, ltb-false 64 d e)
 
-        module _ (new : nameFault rs n ≡ false) {d : ℕ} (deepest : d ≡ deepestOf depths₀ (childrenBy r (rowAt row))) where
-          abbrev tooDeep : Bool
-          tooDeep = cond (ltb (r .kind) 20) (leb 64 d) (ltb 64 d)
-
-          deepest-is : d ≡ deepestOf depths₀ (children (recordOf rs n))
-          deepest-is = deepest ∙ ap (deepestOf depths₀) children-by
-
-          depth-by : {b : Bool} → tooDeep ≡ b → depthFault rs n ≡ b
-          depth-by e =
-              depth-fault rs n depths₀ (ready .kept .depths-are) earlier
-              ∙ sym (λ i. cond (ltb ((ready .is i) .kind) 20) (leb 64 (deepest-is i)) (ltb 64 (deepest-is i)))
-              ∙ e
-
-          pub too-deep : tooDeep ≡ true → Faulty Depth
-          unfolding firstOf causeOf
-          too-deep e = first-is book n shaped right (followed-by follows) new (depth-by e)
-
-          not-deeper : (b : Bool) (d : ℕ) → cond b (leb 64 d) (ltb 64 d) ≡ false → d ≤ 64
-          not-deeper true d e = omega (arith, leb-false 64 d e)
-          not-deeper false d e = omega (arith, ltb-false 64 d e)
-
-          pub passed :
-              {names : List Bool} (x : Fault) → x ≡ Nothing → tooDeep ≡ false → Names rs (suc n) names →
-              Looked book n x used names (set depths₀ n (d + 1))
-          unfolding firstOf refusalOf
-          passed x nothing e named =
-              record {
-                fault-is = ap refusalOf nothing ∙ sym (first-is book n shaped right (followed-by follows) new (depth-by e));
-                kept = λ h. record {
-                  used-is = used-next rs n used (subst (λ cs. Used rs n cs used) children-by (taken .marked fine));
-                  names-are = named;
-                  depths-are =
-                      subst (λ k. Depths rs (suc n) (set depths₀ n (k + 1))) (sym deepest-is)
-                      (depths-next rs n depths₀ (ready .kept .depths-are) earlier (omega arith)
-                      (subst (λ k. k ≤ 64) deepest-is (not-deeper (ltb (r .kind) 20) d e)));
-                };
-              }
+      pub passed :
+          {names : List Bool} (x : Fault) → x ≡ Nothing → tooDeep ≡ false → Names (records book) (suc n) names →
+          Looked book n x used names (set depths₀ n (d + 1))
+      unfolding firstOf refusalOf
+      passed x nothing e named =
+          record {
+            fault-is = ap refusalOf nothing ∙ sym (first-by e);
+            kept = λ h. record {
+              used-is =
+                  used-next (records book) n used
+                  (subst (λ cs. Used (records book) n cs used) same-children (of .taken .marked refl));
+              names-are = named;
+              depths-are =
+                  subst (λ k. Depths (records book) (suc n) (set depths₀ n (k + 1))) (sym deepest-is)
+                  (depths-next (records book) n depths₀ (ready .kept .depths-are) earlier (omega arith)
+                  (subst (λ k. k ≤ 64) deepest-is (not-deeper (ltb (r .kind) 20) d e)));
+            };
+          }
 
 -- record n is one of the records
 pub less :

@@ -1,25 +1,20 @@
 -- Proofs by the rows of the table, and readers that take so many levels of a tree: more levels than there are give the same.
 -- Assumes nothing.
 use Prim.Native.Nat.{ℕ, zero, suc, _+_, _≤_, _<_}
-use mathlib.Core.Bool.{Bool, true, false, cond, not, _&&_, _||_, false≢true, true≢false}
+use mathlib.Core.Bool.{Bool, true, false, cond, _&&_, _||_, false≢true, true≢false}
 use mathlib.Core.List.{List, [], _∷_}
 use mathlib.Core.Option.{Option, some}
 use mathlib.Core.Path.{_≡_, refl, sym, _∙_, subst}
 use native.Mathlib.Omega.{arith}
-use lib.Dec.{leb, ltb, eqb}
+use lib.Dec.{leb, eqb}
 use lib.ListN.{length}
-use borrow.Author.Tests.{leb-true, leb-false, eqb-true, not-false, lt-ltb}
+use borrow.Author.Tests.{leb-true, eqb-true}
 use Rattle.record.specs.declared.Record.{Record}
 use Rattle.book.specs.Lists.{All, any, find, keep}
 use Rattle.book.specs.Shape.{Group, inGroup}
 use Rattle.book.specs.Shape.{Row, table, rowOf, Child, childrenBy, children, isOf}
-use Rattle.book.specs.Blocks.{recordCount, records}
-use Rattle.book.specs.Faults.{recordOf, shapeFault, usedBefore, childFault, deeperThan, depthFault}
-use Rattle.book.specs.Refusal.{Cause, shape, child, depth, at, faulty}
-use Rattle.book.specs.First.{hasPlace}
+use Rattle.book.specs.Faults.{recordOf, deeperThan}
 use Rattle.book.specs.Trees.{WellFormed}
-use Rattle.book.proofs.First.{passed-by-all}
-use Rattle.book.proofs.Records.{records-length}
 
 -- what a Boolean is by what it is not, and by its parts
 pub not-so : (b : Bool) → (b ≡ true → ⊥) → b ≡ false

@@ -2,7 +2,7 @@
 -- Assumes nothing.
 use Prim.Native.Nat.{ℕ, _+_, _*_}
 use mathlib.Core.Bool.{Bool}
-use mathlib.Core.List.{List, [], _∷_}
+use mathlib.Core.List.{List}
 use mathlib.Core.Option.{Option, some, none}
 use Rattle.book.specs.declared.Cause as code
 use Rattle.book.specs.declared.Cause.the-variants.{BookLength, Check, Block, Shape, Child, Follow, Name, Depth}

@@ -5,9 +5,11 @@ use mathlib.Core.Bool.{Bool, not, _&&_, _||_}
 use mathlib.Core.List.{List}
 use lib.Dec.{eqb}
 use lib.ListN.{length}
+use Rattle.book.specs.Answer.{readBook}
 use Rattle.replay.specs.Bytes.{bit}
 use Rattle.replay.specs.Agree.{follows, agrees, blocksIn, suits}
 use Rattle.replay.specs.Checks.{mustHold, holding, failing, readingBack}
+use Rattle.replay.specs.Reading.{readsAs}
 use Rattle.replay.specs.declared.layout.Header.{Header}
 use Rattle.replay.specs.declared.answer.Outcome.{Outcome}
 
@@ -22,24 +24,28 @@ complete h book results diagnostics =
 unfoldable pub formed : Header → ℕ → ℕ → ℕ → Bool
 formed h book results diagnostics = agrees h && suits h book && complete h book results diagnostics
 
--- the first n blocks hold their checks, block n does not if the cause is 2, and the records of the n blocks are read back
-unfoldable pub checked : ℕ → List ℕ → ℕ → Outcome
-checked cause book n =
+-- the book reads as the reply says, the first n blocks hold their checks, block n does not if the cause is 2, and the records of the n blocks are
+-- read back
+unfoldable pub checked : Header → List ℕ → ℕ → Outcome
+checked h book n =
     record {
       right =
-          eqb (holding book n) n
-          && (not (eqb cause 2) || failing cause book n)
+          readsAs h (readBook book)
+          && eqb (holding book n) n
+          && (not (eqb (h .cause) 2) || failing (h .cause) book n)
           && eqb (readingBack book (21 * n)) (21 * n);
-      blocks = holding book n + bit (failing cause book n);
+      read = readsAs h (readBook book);
+      blocks = holding book n + bit (failing (h .cause) book n);
       records = readingBack book (21 * n);
     }
 
 -- an answer is right where its form is and its checks are
 unfoldable pub outcome : Header → List ℕ → List ℕ → List ℕ → Outcome
 outcome h book results diagnostics =
-    let found : Outcome = checked (h .cause) book (mustHold (h .cause) (h .place) (blocksIn (length book))) in
+    let found : Outcome = checked h book (mustHold (h .cause) (h .place) (blocksIn (length book))) in
     record {
       right = formed h (length book) (length results) (length diagnostics) && found .right;
+      read = found .read;
       blocks = found .blocks;
       records = found .records;
     }

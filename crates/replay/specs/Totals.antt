@@ -13,6 +13,7 @@ counted t accepted o =
       answers = t .answers + 1;
       accepted = t .accepted + bit accepted;
       refused = t .refused + bit (not accepted);
+      read = t .read + bit (o .read);
       blocks = t .blocks + o .blocks;
       records = t .records + o .records;
       wrong = t .wrong + bit (not (o .right));
@@ -22,6 +23,7 @@ counted t accepted o =
 pub record Within (t : Totals) : Type 0 where
   pub accepted : t .accepted ≤ t .answers
   pub refused : t .refused ≤ t .answers
+  pub read : t .read ≤ t .answers
   pub blocks : t .blocks ≤ 65535 * t .answers
   pub records : t .records ≤ 65535 * t .answers
   pub wrong : t .wrong ≤ t .answers

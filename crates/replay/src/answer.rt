@@ -6,11 +6,13 @@ ghost use Rattle.replay.specs.Outcome.{complete, formed, checked, outcom
 use crate::agree;
 use crate::checks;
 use crate::layout::Header;
+use crate::reading;
 
-// What is found of an answer: whether it is right, how many blocks have the check that they should have or not have,
-// and how many records are read back.
+// What is found of an answer: whether it is right, whether its book reads as the reply says, how many blocks have the
+// check that they should have or not have, and how many records are read back.
 pub struct Outcome {
     pub right: bool,
+    pub read: bool,
     pub blocks: u16,
     pub records: u16,
 }
@@ -33,16 +35,18 @@ fn is_formed(h: Header, book: usize, results: usize, diagnostics: usize) -> bool
         & is_complete(h, book, results, diagnostics)
 }
 
-// The checks of a book's first n blocks and of their records.
-fn check_book(cause: u32, book: &[u8], n: u16) -> Outcome
+// Whether its book reads as the reply says; the checks of the book's first n blocks and of their records.
+fn check_book(h: Header, book: &[u8], n: u16) -> Outcome
     requires { ⌜ n ≤ 64 ⌝ }
-    ensures { λ r. ⌜ r ≡ checked cause (now (book .entry)) n ⌝ }
+    ensures { λ r. ⌜ r ≡ checked h (now (book .entry)) n ⌝ }
 {
     let holding = checks::count_holding(book, n);
-    let fails = checks::block_fails(cause, book, n);
+    let fails = checks::block_fails(h.cause, book, n);
     let back = checks::count_back(book, 21 * n);
+    let read = reading::book_reads(h, book);
     Outcome {
-        right: (holding == n) & ((cause != 2) | fails) & (back == 21 * n),
+        right: read & (holding == n) & ((h.cause != 2) | fails) & (back == 21 * n),
+        read,
         blocks: holding + fails as u16,
         records: back,
     }
@@ -55,9 +59,10 @@ pub(crate) fn replay_answer(h: Header, book: &[u8], results: &[u8], diagnostics:
 {
     let formed = is_formed(h, book.len(), results.len(), diagnostics.len());
     let n = checks::must_hold(h.cause, h.place, agree::block_count(book.len()));
-    let found = check_book(h.cause, book, n);
+    let found = check_book(h, book, n);
     Outcome {
         right: formed & found.right,
+        read: found.read,
         blocks: found.blocks,
         records: found.records,
     }

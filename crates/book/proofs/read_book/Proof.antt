@@ -1,90 +1,112 @@
-use mathlib.Core.List.{flatMap}
-use mathlib.Core.Path.{refl, sym, ap, _∙_, subst}
+-- `book::read_book` meets its contract: the length, then the blocks, then the records, each by a law of proofs/Answers.antt.
+-- Assumes nothing.
+use Prim.Native.Nat.{ℕ}
+use mathlib.Core.Bool.{false}
+use mathlib.Core.List.{List, flatMap}
+use mathlib.Core.Option.{none}
+use mathlib.Core.Path.{_≡_, refl, sym, ap, _∙_, subst}
 use native.Mathlib.Omega.{arith}
-use Rattle.book.specs.Answer.{causeOf, refusalOf, answerBy, readBook}
-use Rattle.book.specs.declared.Cause.the-variants.{BookLength}
-use Rattle.book.specs.Lists.{find, upTo}
-use Rattle.book.specs.Refusal.{atRecord, holds}
-use Rattle.book.specs.Tables.{Counted}
-use Rattle.book.proofs.Answers.{by-length, some-blocks, by-blocks, by-records, counted, answer-refused}
+use denote.Ref.{now}
 use borrow.Author.Needs.{needs}
+use Rattle.book.specs.Lists.{find, upTo}
+use Rattle.book.specs.Blocks.{lengthFault, blocks}
+use Rattle.book.specs.Refusal.{atBlock, atRecord, holds}
+use Rattle.book.specs.Answer.{causeOf, refusalOf, answerBy, readBook}
+use Rattle.book.specs.Tables.{Counted}
+use Rattle.book.specs.declared.Cause.the-variants.{BookLength}
+use Rattle.book.proofs.Answers.{by-length, some-blocks, by-blocks, by-records, counted, answer-refused}
 use Rattle.book.proofs.read_book.Statement.{statement}
 use Rattle.book.proofs.read_book.Tie as tie
 use Rattle.book.proofs.read_book.Reads as reads
 use Rattle.book.proofs.read_book.Lts as lts
-use Rattle.book.proofs.blocks.first_fault.Reads as first-fault-reads
-use Rattle.book.proofs.blocks.length_fault.Reads as length-fault-reads
-use Rattle.book.proofs.blocks.record_count.Reads as record-count-reads
-use Rattle.book.proofs.read_records.Reads as read-records-reads
+use Rattle.book.proofs.blocks.length_fault.Reads as length-fault
+use Rattle.book.proofs.blocks.first_fault.Reads as first-fault
+use Rattle.book.proofs.blocks.record_count.Reads as record-count
+use Rattle.book.proofs.read_records.Reads as read-records
 
--- src/lib.rt:59:8
-length-fault-requires : tie.Need-length-fault-requires
-length-fault-requires c κs = search needs
+-- what the functions that are called promise, in the order of the calls
+abbrev claims : lts.Claims
+claims = (
+  length-fault.Asked,
+  length-fault.Learnt,
+  first-fault.Asked,
+  first-fault.Learnt,
+  record-count.Asked,
+  record-count.Learnt,
+  read-records.Asked,
+  read-records.Learnt,
+)
 
--- src/lib.rt:60:9
+-- the places where the length is right, and where the blocks are
+abbrev Behind-length : Type 0
+Behind-length = lts.Else1 claims reads.Pre reads.Post
+
+abbrev Behind-blocks : Type 0
+Behind-blocks = lts.After-enum-told claims reads.Pre reads.Post
+
+abbrev book : Behind-length → List ℕ
+book c = now (c .before .before .before .args .book)
+
+abbrev behind-length : Behind-blocks → Behind-length
+behind-length c = c .before .before .before
+
+right : (c : Behind-length) → lengthFault (book c) ≡ false
+right c = sym (c .before .length-fault .ensures) ∙ c .if1 .left
+
+fine : (c : Behind-blocks) → let b = book (behind-length c) in find (holds b) (flatMap atBlock (upTo (blocks b))) ≡ none
+unfolding refusalOf
+fine c = sym (c .before .before .first-fault .ensures) ∙ ap refusalOf (c .enum-told .given .1)
+
 returns : tie.Need-returns
 unfolding readBook causeOf
 returns c =
-    let book = c .before .before .before .args .book .now in
-    answer-refused book BookLength 0 (sym (by-length book (sym (c .before .length-fault .ensures) ∙ c .if1 .taken)))
+    let b = now (c .before .before .before .args .book) in
+    answer-refused b BookLength 0 (sym (by-length b (sym (c .before .length-fault .ensures) ∙ c .if1 .taken)))
 
--- src/lib.rt:65:13
 cast-n : tie.Need-cast-n
-cast-n c = record { fits = omega (arith, some-blocks (c .before .before .before .args .book .now) (sym (c .before .length-fault .ensures) ∙ c .if1 .left)) }
+cast-n c = record { fits = omega (arith, some-blocks (book c) (right c)) }
 
--- src/lib.rt:66:11
 first-fault-requires : tie.Need-first-fault-requires
-first-fault-requires c κs = (refl, some-blocks (c .before .before .before .args .book .now) (sym (c .before .length-fault .ensures) ∙ c .if1 .left) .1)
+first-fault-requires c κs = (refl, some-blocks (book c) (right c) .1)
 
--- src/lib.rt:67:21
-enum-known-cause : tie.Need-enum-known-cause
-enum-known-cause c = search needs
-
--- src/lib.rt:68:46
-enum-told : tie.Need-enum-told
-enum-told c = search needs
-
--- src/lib.rt:68:46
 record-count-requires : tie.Need-record-count-requires
 record-count-requires c κs =
-    let blocks = some-blocks (c .before .before .before .before .before .before .args .book .now) (sym (c .before .before .before .before .length-fault .ensures) ∙ c .before .before .before .if1 .left) in
-    (refl, blocks .0, blocks .1)
+    let l = behind-length c in
+    let some = some-blocks (book l) (right l) in
+    (refl, some .0, some .1)
 
--- src/lib.rt:68:27
 read-records-requires : tie.Need-read-records-requires
-unfolding refusalOf
 read-records-requires c κs =
-    let book = c .before .before .before .before .before .before .before .args .book .now in
-    subst (Counted book) (sym (c .record-count .ensures)) (counted book (sym (c .before .before .before .before .before .length-fault .ensures) ∙ c .before .before .before .before .if1 .left) (sym (c .before .before .before .first-fault .ensures) ∙ ap refusalOf (c .before .enum-told .given .1)))
+    let l = behind-length (c .before) in
+    subst (Counted (book l)) (sym (c .record-count .ensures)) (counted (book l) (right l) (fine (c .before)))
 
--- src/lib.rt:56:1
 returns-2 : tie.Need-returns-2
 unfolding readBook refusalOf
 returns-2 c =
-    let book = c .before .before .before .before .before .before .before .args .book .now in
+    let f = c .before .before .before in
     let told = c .before .cause .given in
-    answer-refused book (told .0 .0) (told .0 .1 .0)
-    (sym (by-blocks book (sym (c .before .before .before .before .before .length-fault .ensures) ∙ c .before .before .before .before .if1 .left) _ (sym (c .before .before .before .first-fault .ensures) ∙ ap refusalOf (told .1))))
+    let first = sym (f .first-fault .ensures) ∙ ap refusalOf (told .1) in
+    answer-refused (book (f .before)) (told .0 .0) (told .0 .1 .0) (sym (by-blocks (book (f .before)) (right (f .before)) _ first))
 
--- src/lib.rt:56:1
 returns-3 : tie.Need-returns-3
-unfolding readBook refusalOf
+unfolding readBook
 returns-3 c =
-    let book = c .before .before .before .before .before .before .before .before .args .book .now in
+    let b = c .before .before in
+    let l = behind-length b in
     c .read-records .ensures
-    ∙ ap (λ n. answerBy (find (holds book) (flatMap atRecord (upTo n))) book) (c .before .record-count .ensures)
-    ∙ ap (λ o. answerBy o book) (sym (by-records book (sym (c .before .before .before .before .before .before .length-fault .ensures) ∙ c .before .before .before .before .before .if1 .left) (sym (c .before .before .before .before .first-fault .ensures) ∙ ap refusalOf (c .before .before .enum-told .given .1))))
+    ∙ ap (λ n. answerBy (find (holds (book l)) (flatMap atRecord (upTo n))) (book l)) (c .before .record-count .ensures)
+    ∙ ap (λ o. answerBy o (book l)) (sym (by-records (book l) (right l) (fine b)))
 
 pub read-book-spec : {M : Type 1} → statement M
 read-book-spec =
     tie.close
     (tie.spec
-    length-fault-requires
+    (λ c κs. search needs)
     returns
     cast-n
     first-fault-requires
-    enum-known-cause
-    enum-told
+    (λ c. search needs)
+    (λ c. search needs)
     record-count-requires
     read-records-requires
     returns-2

@@ -1,4 +1,4 @@
--- The table is the rule, cell by cell: it converts to the table that the rule fills.
+-- `book::follow_table::follows` meets its contract: the table is the rule, cell by cell; it converts to the table that the rule fills.
 -- Assumes nothing.
 use mathlib.Core.Bool.{false}
 use borrow.Author.Needs.{needs}
@@ -8,18 +8,9 @@ use Rattle.book.proofs.Places.{table-at}
 use Rattle.book.proofs.follow_table.follows.Statement.{statement}
 use Rattle.book.proofs.follow_table.follows.Tie as tie
 
-mul-result : tie.Need-mul-result
-mul-result c = search needs
-
-index-1-result : tie.Need-index-1-result
-index-1-result c = search needs
-
-index-2-result : tie.Need-index-2-result
-index-2-result c = search needs
-
 returns : tie.Need-returns
 unfolding any behind followOf
 returns c = table-at followOf false 37 37 (c .before .args .before) (c .before .args .kind) (search needs) (search needs)
 
 pub follows-spec : {M : Type 1} → statement M
-follows-spec = tie.close (tie.spec mul-result index-1-result index-2-result returns)
+follows-spec = tie.close (tie.spec (λ c. search needs) (λ c. search needs) (λ c. search needs) returns)

@@ -1,136 +1,197 @@
-use mathlib.Core.Bool.{cond}
-use mathlib.Core.Path.{refl, sym, ap, _∙_}
+-- `book::scan::record_fault` meets its contract. Behind each test that a record passes one thing more is known of it (`shaped` to `new`), and each
+-- return hands that to a law of proofs/Looks.antt.
+-- Assumes nothing.
+use Prim.Native.Nat.{suc}
+use mathlib.Core.Bool.{Bool}
+use mathlib.Core.List.{List}
+use mathlib.Core.Path.{_≡_, refl, sym, _∙_}
 use native.Mathlib.Omega.{arith}
-use lib.Dec.{leb, ltb}
+use denote.Ref.{now}
 use borrow.Author.Tests.{not-true, not-false}
 use borrow.Author.Needs.{needs}
 use Rattle.book.specs.declared.Cause.the-variants.{Shape, Child, Follow, Name, Depth}
-use Rattle.book.proofs.Looks.{turned-back, no-row, not-shaped, wrong-child, not-following, named-again, too-deep, passed, well-shaped, less, few-levels}
+use Rattle.book.specs.Blocks.{records}
+use Rattle.book.specs.Faults.{nameFault}
+use Rattle.book.specs.Tables.{Names}
+use Rattle.book.proofs.Looks.{Shaped, Right, Stands, New, less, turned-back, no-row, not-shaped, few-levels, well-shaped, wrong-child}
+use Rattle.book.proofs.Looks.{right-children, not-following, named-again, too-deep, passed}
 use Rattle.book.proofs.Declares.{shaped-name}
 use Rattle.book.proofs.scan.record_fault.Statement.{statement}
 use Rattle.book.proofs.scan.record_fault.Tie as tie
 use Rattle.book.proofs.scan.record_fault.Reads as reads
 use Rattle.book.proofs.scan.record_fault.Lts as lts
-use Rattle.book.proofs.children.take_children.Reads as take-children-reads
-use Rattle.book.proofs.depth.deepest.Reads as deepest-reads
+use Rattle.book.proofs.shape.row_of.Reads as row-of
+use Rattle.book.proofs.scan.fault.Reads as fault
+use Rattle.book.proofs.shape.fits.Reads as fits
+use Rattle.book.proofs.children.take_children.Reads as take-children
+use Rattle.book.proofs.follow.may_follow.Reads as may-follow
+use Rattle.book.proofs.names.declare.Reads as declare
+use Rattle.book.proofs.depth.deepest.Reads as deepest
 use Rattle.book.proofs.depth.too_deep.Reads as too-deep-reads
-use Rattle.book.proofs.follow.may_follow.Reads as may-follow-reads
-use Rattle.book.proofs.names.declare.Reads as declare-reads
-use Rattle.book.proofs.scan.fault.Reads as fault-reads
-use Rattle.book.proofs.shape.fits.Reads as fits-reads
-use Rattle.book.proofs.shape.row_of.Reads as row-of-reads
 
--- src/scan.rt:51:9
-row-of-requires : tie.Need-row-of-requires
-row-of-requires c κs = search needs
+-- what the functions that are called promise, in the order of the calls
+abbrev claims : lts.Claims
+claims = (
+  row-of.Asked,
+  row-of.Learnt,
+  fault.Asked,
+  fault.Learnt,
+  fits.Asked,
+  fits.Learnt,
+  take-children.Asked,
+  take-children.Learnt,
+  may-follow.Asked,
+  may-follow.Learnt,
+  declare.Asked,
+  declare.Learnt,
+  deepest.Asked,
+  deepest.Learnt,
+  too-deep-reads.Asked,
+  too-deep-reads.Learnt,
+)
 
--- src/scan.rt:53:9
-fault-requires : tie.Need-fault-requires
-fault-requires c κs = search needs
+-- the places behind `row_of`, and behind each test that a record passes
+abbrev Behind-row : Type 0
+Behind-row = lts.After-row-of claims reads.Pre reads.Post
 
--- src/scan.rt:53:9
+abbrev Behind-shape : Type 0
+Behind-shape = lts.Else2 claims reads.Pre reads.Post
+
+abbrev Behind-children : Type 0
+Behind-children = lts.Else3 claims reads.Pre reads.Post
+
+abbrev Behind-follow : Type 0
+Behind-follow = lts.Else4 claims reads.Pre reads.Post
+
+abbrev Behind-name : Type 0
+Behind-name = lts.Else5 claims reads.Pre reads.Post
+
+-- from each place back to `row_of`, to what is known at the start, and to the marks of the children
+abbrev row : Behind-shape → Behind-row
+row c = c .before .before .before
+
+abbrev start : Behind-row → lts.Start claims reads.Pre reads.Post
+start c = c .before .before
+
+abbrev shape : Behind-children → Behind-shape
+shape c = c .before .before .before
+
+abbrev marks : Behind-children → List Bool
+marks c = c .before .take-children .last .1 .1 .1 .1 .0
+
+abbrev children : Behind-follow → Behind-children
+children c = c .before .before
+
+abbrev follow : Behind-name → Behind-follow
+follow c = c .before .before .before
+
+-- what is known of the record at each of them
+shaped : (c : Behind-shape) → Shaped (start (row c) .pre) (row c .row-of .result)
+shaped c =
+    record { found = row c .row-of .ensures .1; fitting = sym (c .before .fits2 .ensures) ∙ not-false _ (c .if2 .left) }
+
+right : (c : Behind-children) → let r = row (shape c) in Right (start r .pre) (r .row-of .result) (marks c)
+right c =
+    let r = row (shape c) in
+    right-children (shaped (shape c)) (c .before .take-children .ensures (start r .pre .kept .used-is)) (c .if3 .left)
+
+stands : (c : Behind-follow) → let r = row (shape (children c)) in Stands (start r .pre) (r .row-of .result) (marks (children c))
+stands c =
+    let r = row (shape (children c)) in
+    record {
+      right = right (children c);
+      follows = sym (c .before .may-follow .ensures _ (start r .pre .placed)) ∙ not-false _ (c .if4 .left);
+    }
+
+-- what `declare` says of the name
+declared :
+    (c : lts.After-declare claims reads.Pre reads.Post) →
+    let a = start (row (shape (children (c .before .before)))) .args in
+    (c .declare .result ≡ nameFault (records (now (a .book))) (a .n))
+    × Names (records (now (a .book))) (suc (a .n)) (c .declare .last .1 .0)
+declared c =
+    let ready = start (row (shape (children (c .before .before)))) .pre in
+    c .declare .ensures _ _ (ready .kept .names-are) (less ready) (ready .is)
+
+new : (c : Behind-name) → let r = row (shape (children (follow c))) in New (start r .pre) (r .row-of .result) (marks (children (follow c)))
+new c = record { stands = stands (follow c); new = sym (declared (c .before) .0) ∙ c .if5 .left }
+
 returns : tie.Need-returns
-returns c = turned-back Shape (no-row (c .before .before .before .before .pre) (c .before .before .row-of .result) (c .before .before .row-of .ensures .1) (c .before .if1 .taken)) (c .fault .ensures)
+returns c =
+    let r = c .before .before in
+    turned-back Shape (no-row (start r .pre) (r .row-of .result) (r .row-of .ensures .1) (c .before .if1 .taken)) (c .fault .ensures)
 
--- src/scan.rt:55:9
-fits-requires : tie.Need-fits-requires
-fits-requires c κs = search needs
-
--- src/scan.rt:56:9
-fault-requires-2 : tie.Need-fault-requires-2
-fault-requires-2 c κs = search needs
-
--- src/scan.rt:56:9
 returns-2 : tie.Need-returns-2
-returns-2 c = turned-back Shape (not-shaped (c .before .before .before .before .before .before .pre) (c .before .before .before .before .row-of .result) (c .before .before .before .before .row-of .ensures .1) (sym (c .before .before .fits2 .ensures) ∙ not-true _ (c .before .if2 .taken))) (c .fault2 .ensures)
+returns-2 c =
+    let r = c .before .before .before .before in
+    let fits-not = sym (c .before .before .fits2 .ensures) ∙ not-true _ (c .before .if2 .taken) in
+    turned-back Shape (not-shaped (start r .pre) (r .row-of .result) (r .row-of .ensures .1) fits-not) (c .fault2 .ensures)
 
--- src/scan.rt:58:8
-take-children-requires : tie.Need-take-children-requires
-take-children-requires c κs = search needs
-
--- src/scan.rt:59:9
-fault-requires-3 : tie.Need-fault-requires-3
-fault-requires-3 c κs = search needs
-
--- src/scan.rt:59:9
 returns-3 : tie.Need-returns-3
-returns-3 c = turned-back Child (wrong-child (c .before .before .before .before .before .before .before .before .before .pre) (c .before .before .before .before .before .before .before .row-of .result) (c .before .before .before .before .before .before .before .row-of .ensures .1) (sym (c .before .before .before .before .before .fits2 .ensures) ∙ not-false _ (c .before .before .before .before .if2 .left)) (c .before .before .take-children .ensures (c .before .before .before .before .before .before .before .before .before .pre .kept .used-is)) (c .before .if3 .taken)) (c .fault3 .ensures)
+returns-3 c =
+    let s = c .before .before .before .before in
+    let taken = c .before .before .take-children .ensures (start (row s) .pre .kept .used-is) in
+    turned-back Child (wrong-child (shaped s) taken (c .before .if3 .taken)) (c .fault3 .ensures)
 
--- src/scan.rt:61:9
 may-follow-requires : tie.Need-may-follow-requires
-may-follow-requires c κs = (well-shaped (c .before .before .before .before .before .before .before .before .pre) (c .before .before .before .before .before .before .row-of .result) (c .before .before .before .before .before .before .row-of .ensures .1) (sym (c .before .before .before .before .fits2 .ensures) ∙ not-false _ (c .before .before .before .if2 .left)), c .before .before .before .before .before .before .before .before .pre .placed .known)
+may-follow-requires c κs = (well-shaped (shaped (shape c)), start (row (shape c)) .pre .placed .known)
 
--- src/scan.rt:62:9
-fault-requires-4 : tie.Need-fault-requires-4
-fault-requires-4 c κs = search needs
-
--- src/scan.rt:62:9
 returns-4 : tie.Need-returns-4
-returns-4 c = turned-back Follow (not-following (c .before .before .before .before .before .before .before .before .before .before .before .pre) (c .before .before .before .before .before .before .before .before .before .row-of .result) (c .before .before .before .before .before .before .before .before .before .row-of .ensures .1) (sym (c .before .before .before .before .before .before .before .fits2 .ensures) ∙ not-false _ (c .before .before .before .before .before .before .if2 .left)) (c .before .before .before .before .take-children .ensures (c .before .before .before .before .before .before .before .before .before .before .before .pre .kept .used-is)) (c .before .before .before .if3 .left) (sym (c .before .before .may-follow .ensures _ (c .before .before .before .before .before .before .before .before .before .before .before .pre .placed)) ∙ not-true _ (c .before .if4 .taken))) (c .fault4 .ensures)
+returns-4 c =
+    let t = c .before .before .before in
+    let placed = start (row (shape t)) .pre .placed in
+    let follows-not = sym (c .before .before .may-follow .ensures _ placed) ∙ not-true _ (c .before .if4 .taken) in
+    turned-back Follow (not-following (right t) follows-not) (c .fault4 .ensures)
 
--- src/scan.rt:64:8
 declare-requires : tie.Need-declare-requires
-declare-requires c κs = shaped-name _ (well-shaped (c .before .before .before .before .before .before .before .before .before .before .before .pre) (c .before .before .before .before .before .before .before .before .before .row-of .result) (c .before .before .before .before .before .before .before .before .before .row-of .ensures .1) (sym (c .before .before .before .before .before .before .before .fits2 .ensures) ∙ not-false _ (c .before .before .before .before .before .before .if2 .left)))
+declare-requires c κs = shaped-name _ (well-shaped (shaped (shape (children (c .before)))))
 
--- src/scan.rt:65:9
-fault-requires-5 : tie.Need-fault-requires-5
-fault-requires-5 c κs = search needs
-
--- src/scan.rt:65:9
 returns-5 : tie.Need-returns-5
-returns-5 c = turned-back Name (named-again (c .before .before .before .before .before .before .before .before .before .before .before .before .before .before .pre) (c .before .before .before .before .before .before .before .before .before .before .before .before .row-of .result) (c .before .before .before .before .before .before .before .before .before .before .before .before .row-of .ensures .1) (sym (c .before .before .before .before .before .before .before .before .before .before .fits2 .ensures) ∙ not-false _ (c .before .before .before .before .before .before .before .before .before .if2 .left)) (c .before .before .before .before .before .before .before .take-children .ensures (c .before .before .before .before .before .before .before .before .before .before .before .before .before .before .pre .kept .used-is)) (c .before .before .before .before .before .before .if3 .left) (sym (c .before .before .before .before .before .may-follow .ensures _ (c .before .before .before .before .before .before .before .before .before .before .before .before .before .before .pre .placed)) ∙ not-false _ (c .before .before .before .before .if4 .left)) (sym (c .before .before .declare .ensures _ _ (c .before .before .before .before .before .before .before .before .before .before .before .before .before .before .pre .kept .names-are) (less (c .before .before .before .before .before .before .before .before .before .before .before .before .before .before .pre)) (c .before .before .before .before .before .before .before .before .before .before .before .before .before .before .pre .is) .0) ∙ c .before .if5 .taken)) (c .fault5 .ensures)
+returns-5 c =
+    let again = sym (declared (c .before .before) .0) ∙ c .before .if5 .taken in
+    turned-back Name (named-again (stands (c .before .before .before .before)) again) (c .fault5 .ensures)
 
--- src/scan.rt:67:9
-deepest-requires : tie.Need-deepest-requires
-deepest-requires c κs = search needs
-
--- src/scan.rt:68:8
-too-deep-requires : tie.Need-too-deep-requires
-too-deep-requires c κs = search needs
-
--- src/scan.rt:69:9
-fault-requires-6 : tie.Need-fault-requires-6
-fault-requires-6 c κs = search needs
-
--- src/scan.rt:69:9
 returns-6 : tie.Need-returns-6
-returns-6 c = turned-back Depth (too-deep (c .before .before .before .before .before .before .before .before .before .before .before .before .before .before .before .before .before .before .pre) (c .before .before .before .before .before .before .before .before .before .before .before .before .before .before .before .before .row-of .result) (c .before .before .before .before .before .before .before .before .before .before .before .before .before .before .before .before .row-of .ensures .1) (sym (c .before .before .before .before .before .before .before .before .before .before .before .before .before .before .fits2 .ensures) ∙ not-false _ (c .before .before .before .before .before .before .before .before .before .before .before .before .before .if2 .left)) (c .before .before .before .before .before .before .before .before .before .before .before .take-children .ensures (c .before .before .before .before .before .before .before .before .before .before .before .before .before .before .before .before .before .before .pre .kept .used-is)) (c .before .before .before .before .before .before .before .before .before .before .if3 .left) (sym (c .before .before .before .before .before .before .before .before .before .may-follow .ensures _ (c .before .before .before .before .before .before .before .before .before .before .before .before .before .before .before .before .before .before .pre .placed)) ∙ not-false _ (c .before .before .before .before .before .before .before .before .if4 .left)) (sym (c .before .before .before .before .before .before .declare .ensures _ _ (c .before .before .before .before .before .before .before .before .before .before .before .before .before .before .before .before .before .before .pre .kept .names-are) (less (c .before .before .before .before .before .before .before .before .before .before .before .before .before .before .before .before .before .before .pre)) (c .before .before .before .before .before .before .before .before .before .before .before .before .before .before .before .before .before .before .pre .is) .0) ∙ c .before .before .before .before .before .if5 .left) (c .before .before .before .deepest .ensures) (sym (c .before .before .too-deep .ensures) ∙ c .before .if6 .taken)) (c .fault6 .ensures)
+returns-6 c =
+    let d = c .before .before .before in
+    let deep = sym (c .before .before .too-deep .ensures) ∙ c .before .if6 .taken in
+    turned-back Depth (too-deep (new (d .before .before)) (d .deepest .ensures) deep) (c .fault6 .ensures)
 
--- src/scan.rt:72:18
 add-depths : tie.Need-add-depths
-add-depths c = omega (arith, few-levels (c .before .before .before .before .before .before .before .before .before .before .before .before .before .before .before .before .before .pre) (c .before .before .before .before .before .before .before .before .before .before .before .before .before .before .before .row-of .result) (c .before .before .before .before .before .before .before .before .before .before .before .before .before .before .before .row-of .ensures .1) (c .before .before .deepest .ensures))
+add-depths c =
+    let d = c .before .before in
+    let r = row (shape (children (follow (d .before .before)))) in
+    omega (arith, few-levels (start r .pre) (r .row-of .result) (r .row-of .ensures .1) (d .deepest .ensures))
 
--- src/scan.rt:72:5
-element-write-depths : tie.Need-element-write-depths
-element-write-depths c = search needs
-
--- src/scan.rt:36:1
 returns-7 : tie.Need-returns-7
-returns-7 c = passed (c .before .before .before .before .before .before .before .before .before .before .before .before .before .before .before .before .before .pre) (c .before .before .before .before .before .before .before .before .before .before .before .before .before .before .before .row-of .result) (c .before .before .before .before .before .before .before .before .before .before .before .before .before .before .before .row-of .ensures .1) (sym (c .before .before .before .before .before .before .before .before .before .before .before .before .before .fits2 .ensures) ∙ not-false _ (c .before .before .before .before .before .before .before .before .before .before .before .before .if2 .left)) (c .before .before .before .before .before .before .before .before .before .before .take-children .ensures (c .before .before .before .before .before .before .before .before .before .before .before .before .before .before .before .before .before .pre .kept .used-is)) (c .before .before .before .before .before .before .before .before .before .if3 .left) (sym (c .before .before .before .before .before .before .before .before .may-follow .ensures _ (c .before .before .before .before .before .before .before .before .before .before .before .before .before .before .before .before .before .pre .placed)) ∙ not-false _ (c .before .before .before .before .before .before .before .if4 .left)) (sym (c .before .before .before .before .before .declare .ensures _ _ (c .before .before .before .before .before .before .before .before .before .before .before .before .before .before .before .before .before .pre .kept .names-are) (less (c .before .before .before .before .before .before .before .before .before .before .before .before .before .before .before .before .before .pre)) (c .before .before .before .before .before .before .before .before .before .before .before .before .before .before .before .before .before .pre .is) .0) ∙ c .before .before .before .before .if5 .left) (c .before .before .deepest .ensures) _ refl (sym (c .before .too-deep .ensures) ∙ c .if6 .left) (c .before .before .before .before .before .declare .ensures _ _ (c .before .before .before .before .before .before .before .before .before .before .before .before .before .before .before .before .before .pre .kept .names-are) (less (c .before .before .before .before .before .before .before .before .before .before .before .before .before .before .before .before .before .pre)) (c .before .before .before .before .before .before .before .before .before .before .before .before .before .before .before .before .before .pre .is) .1)
+returns-7 c =
+    let d = c .before .before in
+    let few = sym (c .before .too-deep .ensures) ∙ c .if6 .left in
+    passed (new (d .before .before)) (d .deepest .ensures) _ refl few (declared (d .before .before .before) .1)
 
 pub record-fault-spec : {M : Type 1} → statement M
 record-fault-spec =
     tie.close
     (tie.spec
-    row-of-requires
-    fault-requires
+    (λ c κs. search needs)
+    (λ c κs. search needs)
     returns
-    fits-requires
-    fault-requires-2
+    (λ c κs. search needs)
+    (λ c κs. search needs)
     returns-2
-    take-children-requires
-    fault-requires-3
+    (λ c κs. search needs)
+    (λ c κs. search needs)
     returns-3
     may-follow-requires
-    fault-requires-4
+    (λ c κs. search needs)
     returns-4
     declare-requires
-    fault-requires-5
+    (λ c κs. search needs)
     returns-5
-    deepest-requires
-    too-deep-requires
-    fault-requires-6
+    (λ c κs. search needs)
+    (λ c κs. search needs)
+    (λ c κs. search needs)
     returns-6
     add-depths
-    element-write-depths
+    (λ c. search needs)
     returns-7)

@@ -9,7 +9,7 @@ use Rattle.book.proofs.shape.cell.Tie as tie
 
 returns : tie.Need-returns
 unfolding numbers table fieldNumber
-returns c = cell-is _ _ (c .before .pre .0)
+returns c = cell-is (c .before .args .row) (c .before .args .column) (c .before .pre .0)
 
 pub cell-spec : {M : Type 1} → statement M
 cell-spec = tie.close (tie.spec (λ c. search needs) (λ c. search needs) (λ c. search needs) returns)

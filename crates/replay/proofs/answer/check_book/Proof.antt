@@ -7,12 +7,14 @@ use Rattle.replay.proofs.Tallies.{bit-small}
 use Rattle.replay.proofs.answer.check_book.Statement.{statement}
 use Rattle.replay.proofs.answer.check_book.Tie as tie
 
-add-t15 : tie.Need-add-t15
-add-t15 c = omega (arith, bit-small (c .before .block-fails .result))
+add-t17 : tie.Need-add-t17
+add-t17 c = omega (arith, bit-small (c .before .before .before .block-fails .result))
 
 returns : tie.Need-returns
 unfolding checked
-returns c = rw (c .before .before .count-holding .ensures .0, c .before .block-fails .ensures, c .count-back .ensures .0)
+returns c =
+    let b = c .before .before .before in
+    rw (b .before .count-holding .ensures .0, b .block-fails .ensures, c .before .before .count-back .ensures .0, c .before .book-reads .ensures)
 
 pub check-book-spec : {M : Type 1} → statement M
 check-book-spec =
@@ -22,7 +24,8 @@ check-book-spec =
     (λ c κs. search needs)
     (λ c. search needs)
     (λ c κs. search needs)
+    (λ c κs. search needs)
     (λ c. search needs)
     (λ c. search needs)
-    add-t15
+    add-t17
     returns)

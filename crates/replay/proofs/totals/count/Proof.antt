@@ -14,15 +14,19 @@ add-t6 c = omega (arith, bit-small (c .before .before .args .accepted))
 add-t9 : tie.Need-add-t9
 add-t9 c = omega (arith, bit-small (not (c .before .before .before .args .accepted)))
 
-add-t16 : tie.Need-add-t16
-add-t16 c =
-    let a = c .before .before .before .before .before .before .before .before .before .args in
+add-t11 : tie.Need-add-t11
+add-t11 c = omega (arith, bit-small (c .before .before .before .before .before .args .o .read))
+
+add-t18 : tie.Need-add-t18
+add-t18 c =
+    let a = c .before .before .before .before .before .before .before .before .before .before .before .args in
     omega (arith, bit-small (not (a .o .right)))
 
 returns : tie.Need-returns
 returns c =
-    let a = c .before .before .before .before .before .before .before .before .before .args in
-    (refl, omega (arith, bit-small (a .accepted), bit-small (not (a .accepted)), bit-small (not (a .o .right))))
+    let a = c .before .before .before .before .before .before .before .before .before .before .before .args in
+    let o = a .o in
+    (refl, omega (arith, bit-small (a .accepted), bit-small (not (a .accepted)), bit-small (o .read), bit-small (not (o .right))))
 
 pub count-spec : {M : Type 1} → statement M
 count-spec =
@@ -34,9 +38,11 @@ count-spec =
     (λ c. search needs)
     add-t9
     (λ c. search needs)
+    add-t11
     (λ c. search needs)
     (λ c. search needs)
     (λ c. search needs)
     (λ c. search needs)
-    add-t16
+    (λ c. search needs)
+    add-t18
     returns)
