@@ -1,7 +1,7 @@
 -- The table of shapes: what its numbers say.
 -- Assumes nothing.
 use Prim.Native.Nat.{ℕ, zero, suc, _+_, _-_, _^_, _≤_, _<_}
-use mathlib.Core.Bool.{Bool, true, false, cond, _&&_, _||_}
+use mathlib.Core.Bool.{Bool, true, false, cond, _&&_, _||_, true≢false}
 use mathlib.Core.List.{List, [], _∷_, map}
 use mathlib.Core.Option.{Option, some}
 use mathlib.Core.Path.{_≡_, refl, sym, ap, _∙_}
@@ -9,13 +9,13 @@ use native.Mathlib.Numerals.{add-one}
 use native.Mathlib.Omega.{arith}
 use lib.Dec.{leb, ltb, eqb}
 use lib.ListN.{length, drop, getD, List·getD-eq-default}
-use borrow.Author.Tests.{ltb-true, ltb-false, lt-ltb, le-ltb}
+use borrow.Author.Tests.{ltb-true, ltb-false, leb-false, lt-ltb, le-ltb, ne-eqb}
 use Rattle.record.specs.declared.Record.{Record}
-use Rattle.book.specs.Lists.{find, at}
+use Rattle.book.specs.Lists.{any, find, at}
 use Rattle.book.specs.Shape.{Group, type, constant, constraint, operand, declaration, item}
 use Rattle.book.specs.Shape.{Field, unused, flag, bits, name, name?, string, string?, ordinal, free, child, child?}
 use Rattle.book.specs.Shape.{Row, table, isRow, rowOf, allows, fits, childIn, groupNumber, inGroup, isOf}
-use Rattle.book.specs.Rows.{rowAt, fieldNumber, numbersOf, cellIn, groupIn}
+use Rattle.book.specs.Rows.{rowAt, firstRow, fieldNumber, numbersOf, cellIn, groupIn}
 
 -- an element that is there stands at its number, and each number below the length has one
 module _ {A B : Type 0} (f : A → B) (d : B) where
@@ -133,6 +133,49 @@ unfolding rowAt
 row-from r i less is b t =
     let (w, e) = row-below i less in
     rw (add-one i) (find-from (isRow r) table i e b (sym (is w e) ∙ t))
+
+-- no row before the first of its kind is the row of a record
+first-skips : (r : Record) (ws : List Row) → find (isRow r) ws ≡ find (isRow r) (drop (firstRow (r .kind) ws) ws)
+unfolding find firstRow
+first-skips r [] = refl
+first-skips r (w ∷ ws) = by (eqb (r .kind) (w .kind)) refl (first-skips r ws)
+  where
+    by :
+        (b : Bool) → eqb (r .kind) (w .kind) ≡ b →
+        find (isRow r) ws ≡ find (isRow r) (drop (firstRow (r .kind) ws) ws) →
+        find (isRow r) (w ∷ ws) ≡ find (isRow r) (drop (firstRow (r .kind) (w ∷ ws)) (w ∷ ws))
+    by true e rest = rw (e, firstRow)
+    by false e rest = rw (e, find, firstRow) rest
+
+first-most : (k : ℕ) (ws : List Row) → firstRow k ws ≤ length ws
+unfolding firstRow
+first-most k [] = omega arith
+first-most k (w ∷ ws) = by (eqb k (w .kind)) (first-most k ws)
+  where
+    by : (b : Bool) → firstRow k ws ≤ length ws → elim b [ true ↦ 0 | false ↦ suc (firstRow k ws) ] ≤ suc (length ws)
+    by true rest = omega arith
+    by false rest = omega arith
+
+pub first-from : (r : Record) {i : ℕ} → i ≡ firstRow (r .kind) table → (i ≤ 38) × (rowOf r ≡ rowFrom r i)
+unfolding rowOf
+first-from r e = (omega (arith, first-most (r .kind) table, rows), first-skips r table ∙ ap (rowFrom r) (sym e))
+
+-- a kind that is above those of all rows has none
+first-none : (k m : ℕ) → m ≤ k → (ws : List Row) → any (λ w. leb m (w .kind)) ws ≡ false → firstRow k ws ≡ length ws
+unfolding any firstRow
+first-none k m less [] e = refl
+first-none k m less (w ∷ ws) e = by (leb m (w .kind)) refl e (first-none k m less ws)
+  where
+    by :
+        (b : Bool) → leb m (w .kind) ≡ b → elim b [ true ↦ true | false ↦ any (λ w. leb m (w .kind)) ws ] ≡ false →
+        (any (λ w. leb m (w .kind)) ws ≡ false → firstRow k ws ≡ length ws) →
+        elim (eqb k (w .kind)) [ true ↦ 0 | false ↦ suc (firstRow k ws) ] ≡ suc (length ws)
+    by true t e rest = absurd (true≢false e)
+    by false t e rest = rw (ne-eqb k (w .kind) (λ s. omega (arith, leb-false m (w .kind) t))) (ap suc (rest e))
+
+pub first-past : (k : ℕ) → 37 ≤ k → firstRow k table ≡ 38
+unfolding any table
+first-past k less = first-none k 37 less table refl
 
 pub row-end : (r : Record) → rowFrom r 38 ≡ rowAt 38
 unfolding rowAt

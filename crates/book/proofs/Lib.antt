@@ -6,6 +6,7 @@ pub mod Trees
 pub mod Scans
 pub mod Counts
 pub mod Cells
+pub mod Filled
 pub mod Places
 pub mod Marks
 pub mod Declares

@@ -1,13 +1,13 @@
 -- What the follow rule knows of the records before.
 -- Assumes nothing.
-use Prim.Native.Nat.{ℕ, zero, suc, _+_, _≤_, _<_}
+use Prim.Native.Nat.{ℕ, suc, _+_, _≤_, _<_}
 use mathlib.Core.Bool.{Bool, true, false, cond, not, _&&_, _||_, false≢true, and-true, or-comm}
 use mathlib.Core.List.{List, [], _∷_, _++_, reverse, reverse-append}
 use mathlib.Core.Option.{Option, some, none}
 use mathlib.Core.Path.{_≡_, refl, sym, ap, _∙_, subst}
 use native.Mathlib.Omega.{arith}
 use lib.Dec.{T, leb, ltb, eqb, eqb·zero-suc, ltb→lt}
-use lib.ListN.{length, take, drop, getD}
+use lib.ListN.{length, take, drop}
 use lib.Seq.{take-suc}
 use borrow.Author.Tests.{leb-true, eqb-true, eqb-false, not-false, lt-ltb, le-ltb, le-leb, eq-eqb, ne-eqb}
 use Rattle.record.specs.declared.Record.{Record}
@@ -53,25 +53,6 @@ before-next rs n less =
         (b : Bool) → reverse (cond b (recordOf rs n ∷ []) []) ++ before rs n ≡ cond b (recordOf rs n ∷ before rs n) (before rs n)
     last true = refl
     last false = refl
-
--- a table that is filled by a rule, and its cells
-module _ {A : Type 0} where
-  abbrev pub tab : (ℕ → A) → ℕ → ℕ → List A
-  tab f i zero = []
-  tab f i (suc n) = f i ∷ tab f (suc i) n
-
-  tab-at : (f : ℕ → A) (d : A) (i n k : ℕ) → k < n → getD (tab f i n) k d ≡ f (i + k)
-  tab-at f d i zero k less = absurd (omega arith)
-  tab-at f d i (suc n) zero less = ap f (omega arith)
-  tab-at f d i (suc n) (suc k) less = tab-at f d (suc i) n k (omega arith) ∙ ap f (omega arith)
-
-pub table-at :
-    {A : Type 0} (f : ℕ → ℕ → A) (d : A) (n m b k : ℕ) → b < n → k < m →
-    getD (getD (tab (λ b. tab (f b) 0 m) 0 n) b []) k d ≡ f b k
-table-at f d n m b k row column =
-    ap (λ l. getD l k d) (tab-at (λ b. tab (f b) 0 m) [] 0 n b row ∙ ap (λ b. tab (f b) 0 m) (omega arith))
-    ∙ tab-at (f b) d 0 m k column
-    ∙ ap (f b) (omega arith)
 
 -- a number that is one of some
 one-of : (P : ℕ → Type 0) (l : List ℕ) (k : ℕ) → isOneOf l k ≡ true → All P l → P k

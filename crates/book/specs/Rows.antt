@@ -1,8 +1,10 @@
 -- How the code's table of shapes writes the rows: by numbers.
 -- Assumes nothing.
-use Prim.Native.Nat.{ℕ, _+_}
+use Prim.Native.Nat.{ℕ, suc, _+_}
+use mathlib.Core.Bool.{true, false}
 use mathlib.Core.List.{List, [], _∷_}
 use mathlib.Core.Option.{Option, some, none}
+use lib.Dec.{eqb}
 use lib.ListN.{getD}
 use Rattle.book.specs.Lists.{at}
 use Rattle.book.specs.Shape.{Field, unused, flag, bits, name, name?, string, string?, ordinal, free, child, child?}
@@ -11,6 +13,11 @@ use Rattle.book.specs.Shape.{Row, Child, table, groupNumber}
 -- row w of the table
 unfoldable pub rowAt : ℕ → Option Row
 rowAt w = at table w
+
+-- the number of the first row of a kind, and of all rows where there is none
+unfoldable pub firstRow : ℕ → List Row → ℕ
+firstRow k [] = 0
+firstRow k (w ∷ ws) = elim (eqb k (w .kind)) [ true ↦ 0 | false ↦ suc (firstRow k ws) ]
 
 -- fields by number
 unfoldable pub fieldNumber : Field → ℕ

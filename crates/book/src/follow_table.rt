@@ -3,9 +3,7 @@
 ghost use mathlib.Core.Path.{_≡_};
 ghost use Prim.Native.Nat.{_<_};
 ghost use Rattle.book.specs.Follow.{followOf};
-
-// Kinds are below this.
-const KINDS: usize = 37;
+use crate::shape::KINDS;
 
 // Short for a table of many.
 const T: bool = true;

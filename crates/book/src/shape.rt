@@ -3,8 +3,8 @@
 ghost use mathlib.Core.Path.{_≡_};
 ghost use Prim.Native.Nat.{_≤_, _<_};
 ghost use mathlib.Core.Option.{some};
-ghost use Rattle.book.specs.Shape.{Field, Group, Row, isRow, rowOf, allows, fits, groupNumber, isOf, childIn};
-ghost use Rattle.book.specs.Rows.{rowAt, fieldNumber, cellIn, groupIn};
+ghost use Rattle.book.specs.Shape.{Field, Group, Row, table, isRow, rowOf, allows, fits, groupNumber, isOf, childIn};
+ghost use Rattle.book.specs.Rows.{rowAt, firstRow, fieldNumber, cellIn, groupIn};
 use record::Record;
 
 // The groups of kinds.
@@ -58,6 +58,9 @@ const MAYBE_WHERE: u8 = 23;
 
 // What stands for no child and for no name.
 const NONE: u16 = 65535;
+
+// Kinds are below this.
+pub const KINDS: usize = 37;
 
 // The number of rows; as the number of a row it stands for none.
 pub const ROWS: u8 = 38;
@@ -120,6 +123,47 @@ const TABLE: [[u8; 8]; 38] = [
     [ITEM, 36, 0, 2, MAYBE_STRING, UNUSED, UNUSED, UNUSED], // tombstone argument
 ];
 
+// The first row of each kind; the rows of a kind stand together.
+const FIRST: [u8; KINDS] = [
+    ROWS,
+    0,
+    1,
+    2,
+    3,
+    4,
+    5,
+    6,
+    9,
+    10,
+    11,
+    13,
+    14,
+    15,
+    17,
+    18,
+    19,
+    ROWS,
+    ROWS,
+    ROWS,
+    24,
+    25,
+    26,
+    27,
+    28,
+    29,
+    ROWS,
+    ROWS,
+    ROWS,
+    ROWS,
+    30,
+    31,
+    32,
+    33,
+    34,
+    35,
+    37,
+];
+
 // A number of a row of the table.
 pub(crate) fn cell(row: u8, column: u8) -> u8
     requires { ⌜ (row < 38) × (column < 8) ⌝ }
@@ -141,11 +185,19 @@ fn is_row(r: Record, row: u8) -> bool
     (r.kind == kind) & (low <= r.sub) & (r.sub <= high)
 }
 
+// The first row of a kind.
+fn first_row(kind: u8) -> u8
+    ensures { λ x. ⌜ x ≡ firstRow kind table ⌝ }
+{
+    let k = kind as usize;
+    if k < KINDS { FIRST[k] } else { ROWS }
+}
+
 // The number of a record's row.
 pub(crate) fn row_of(r: Record) -> u8
     ensures { λ x. ⌜ (x ≤ 38) × (rowAt x ≡ rowOf r) ⌝ }
 {
-    let mut row: u8 = 0;
+    let mut row = first_row(r.kind);
     while row < ROWS {
         if is_row(r, row) {
             return row;

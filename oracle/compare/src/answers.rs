@@ -205,10 +205,10 @@ fn list() -> (Vec<u8>, String, Vec<Answer>) {
         blocks += b;
         records += r;
     }
+    let n = answers.len();
     let says = format!(
-        "answers {}\naccepted {accepted}\nrefused {}\nblocks {blocks}\nrecords {records}\nwrong 0\n",
-        answers.len(),
-        answers.len() - accepted
+        "answers {n}\naccepted {accepted}\nrefused {}\nread {n}\nblocks {blocks}\nrecords {records}\nwrong 0\n",
+        n - accepted
     );
     (out, says, answers)
 }

@@ -1,7 +1,7 @@
 //! One book with two lent lengths: the model's answer is held to the rows, to what is known by construction, to the
-//! laws of lent slices and, where the book is accepted, to the Rust.
+//! laws of lent slices and, where the book is accepted, to the Rust; and the proved reading to the model's.
 
-use crate::{agree, results, rows};
+use crate::{agree, reading, results, rows};
 use books::{Book, Record};
 use model::{Reply, Trace};
 use std::panic::{catch_unwind, AssertUnwindSafe};
@@ -54,6 +54,7 @@ pub struct Outcome {
 pub fn judge(book: &[u8], results: usize, diagnostics: usize, expected: Option<(u8, u32)>) -> Result<Outcome, String> {
     let lent = run(book, results, diagnostics)?;
     let reply = lent.reply;
+    reading::agrees(book, reply)?;
     if let Some((number, place)) = expected {
         same("by construction", reply, Reply::Refused { number, place })?;
     }

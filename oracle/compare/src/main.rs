@@ -8,10 +8,13 @@ mod differences;
 mod judge;
 mod mutants;
 mod named;
+mod reading;
 mod results;
 mod rows;
 mod run;
 mod shrink;
+#[cfg(feature = "proved")]
+mod times;
 
 use std::time::Instant;
 
@@ -20,6 +23,9 @@ const HELP: &str = "usage: oracle/run [--books N] [--damaged M] [--seed S] [--le
   --damaged M   M damaged books (default 5000)
   --seed S      the same seed gives the same books (default 1)
   --least L     fail if a kind, sub, message or cause came in fewer than L books (default 0)";
+
+const READ: &str = "all of them are read by the proved library too: causes 1 to 8, number and place";
+const NOT_READ: &str = "not run: the proved library, which is linked where the toolchain's command rt is on the PATH";
 
 struct Options {
     books: u64,
@@ -79,6 +85,8 @@ fn main() {
         match first.as_str() {
             "answers" => on_answers(rest),
             "mutants" => std::process::exit(!mutants::run(rest) as i32),
+            #[cfg(feature = "proved")]
+            "times" => return times::print(),
             _ => {}
         }
     }
@@ -90,6 +98,7 @@ fn main() {
     println!("{} books with names, {} readable, {} damaged", all.named, all.generated, o.damaged);
     println!("{} of the readable are accepted with full slices and agree with the Rust", all.accepted);
     println!("{} of these also with its own order of constants", all.compared);
+    println!("{}", if reading::LINKED { READ } else { NOT_READ });
     println!("{:.1} s", start.elapsed().as_secs_f64());
     let rare = all.counts.rare(o.least);
     rare.iter().for_each(|r| println!("rare: {r}"));

@@ -4,7 +4,7 @@ use mathlib.Core.Bool.{false}
 use borrow.Author.Needs.{needs}
 use Rattle.book.specs.Lists.{any}
 use Rattle.book.specs.Follow.{behind, followOf}
-use Rattle.book.proofs.Places.{table-at}
+use Rattle.book.proofs.Filled.{table-at}
 use Rattle.book.proofs.follow_table.follows.Statement.{statement}
 use Rattle.book.proofs.follow_table.follows.Tie as tie
 

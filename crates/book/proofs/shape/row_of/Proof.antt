@@ -1,12 +1,13 @@
--- `book::shape::row_of` meets its contract. The loop's invariant: the record's row is the first from this one on that it is of.
+-- `book::shape::row_of` meets its contract. The loop's invariant: the record's row is the first from this one on that it is of. No row before the
+-- first of its kind is.
 -- Assumes nothing.
 use Prim.Native.Nat.{_-_, _≤_}
 use mathlib.Core.Bool.{true, false}
-use mathlib.Core.Path.{_≡_, refl, sym, ap, _∙_}
+use mathlib.Core.Path.{_≡_, sym, ap, _∙_}
 use native.Mathlib.Omega.{arith}
 use borrow.Author.Needs.{needs}
 use Rattle.book.specs.Shape.{rowOf}
-use Rattle.book.proofs.Cells.{rowFrom, row-from, row-end}
+use Rattle.book.proofs.Cells.{rowFrom, first-from, row-from, row-end}
 use Rattle.book.proofs.shape.row_of.Statement.{statement}
 use Rattle.book.proofs.shape.row_of.Tie as tie
 
@@ -17,27 +18,26 @@ abbrev μ-loop : tie.MeasureT-loop
 μ-loop r row₀ row = 38 - row
 
 loop-holds : tie.Need-loop-holds Inv-loop μ-loop
-unfolding rowOf
-loop-holds c = (search needs, refl)
+loop-holds c = first-from (c .before .args .r) (c .first-row .ensures)
 
 returns : tie.Need-returns Inv-loop μ-loop
 returns c =
     let p = c .before .before in
     let l = p .before .loop in
-    let r = p .before .before .args .r in
+    let r = p .before .before .before .args .r in
     (l .inv .0, sym (l .inv .1 ∙ row-from r (l .row) (p .loop-test .taken) (c .before .is-row .ensures) true (c .if1 .taken)))
 
 loop-again : tie.Need-loop-again Inv-loop μ-loop
 loop-again c =
     let p = c .before .before in
     let l = p .before .loop in
-    let r = p .before .before .args .r in
+    let r = p .before .before .before .args .r in
     (omega arith, l .inv .1 ∙ row-from r (l .row) (p .loop-test .taken) (c .before .is-row .ensures) false (c .if1 .left))
 
 returns-2 : tie.Need-returns-2 Inv-loop μ-loop
 returns-2 c =
     let l = c .before .loop in
-    let r = c .before .before .args .r in
+    let r = c .before .before .before .args .r in
     let done : l .row ≡ 38 = omega arith in
     (search needs, sym (l .inv .1 ∙ ap (rowFrom r) done ∙ row-end r))
 
@@ -47,6 +47,7 @@ row-of-spec =
     (tie.spec
     Inv-loop
     μ-loop
+    (λ c κs. search needs)
     loop-holds
     (λ c κs. search needs)
     returns
