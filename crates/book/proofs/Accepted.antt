@@ -13,13 +13,14 @@ use Rattle.record.specs.declared.Record.{Record}
 use Rattle.book.specs.Lists.{All, any, find, upTo}
 use Rattle.book.specs.Shape.{Field, Row, Child, allows, rowOf, fits, wellShaped, children, nameIn, namesBy, names, isOf}
 use Rattle.book.specs.Shape.{unused, flag, bits, name, name?, string, string?, ordinal, free, child, child?}
-use Rattle.book.specs.Blocks.{lengthFault, blocks, recordCount, records}
+use Rattle.book.specs.Blocks.{lengthFault, blocks, recordCount, records, wildcards}
 use Rattle.book.specs.Faults.{recordOf, shapeFault, usedBefore, usedTwice, isWrong, childFault, before, isKind, isUnionTombstone}
 use Rattle.book.specs.Faults.{follows, under, fieldsGoHere, mayFollow, followFault, depthFault}
 use Rattle.book.specs.Refusal.{Cause, Refusal, bookLength, at, atBlock, atRecord, faulty, holds, firstRefusal}
 use Rattle.book.specs.Refusal as cause
+use Rattle.book.specs.Answer.{accepted, answerBy, readBook}
 use Rattle.book.specs.First.{hasPlace}
-use Rattle.book.specs.Trees.{IsChild, IsRecord, InRange, AcceptedIsReadable}
+use Rattle.book.specs.Trees.{IsChild, IsRecord, InRange, Readable, AcceptedIsReadable, ReadIsReadable}
 use Rattle.book.proofs.First.{passed-by-all}
 use Rattle.book.proofs.Lists.{all-append}
 use Rattle.book.proofs.Records.{records-length}
@@ -144,3 +145,13 @@ accepted-is-readable book e =
       in-range = in-range book e;
       well-formed = is-record book e;
     }
+
+pub read-is-readable : ReadIsReadable
+unfolding readBook answerBy
+read-is-readable book n w = by (firstRefusal book) refl
+  where
+    by :
+        (o : Option Refusal) → firstRefusal book ≡ o → answerBy o book ≡ accepted n w →
+        Readable book × (n ≡ recordCount book) × (w ≡ wildcards book)
+    by none e is = (accepted-is-readable book e, cc, cc)
+    by (some x) e is = let z : _≡_ {A = ℕ} 0 1 = cc in absurd (omega arith)

@@ -1,7 +1,7 @@
--- What is known of an accepted book; the proof is in proofs/Accepted.antt.
+-- What is known of an accepted book; the proofs are in proofs/Accepted.antt.
 -- Assumes nothing.
 use Prim.Native.Nat.{ℕ, _+_, _*_, _/_, _%_, _≤_, _<_}
-use mathlib.Core.Bool.{true, false, _&&_, _||_}
+use mathlib.Core.Bool.{Bool, true, false, _&&_, _||_}
 use mathlib.Core.List.{List}
 use mathlib.Core.Option.{none}
 use mathlib.Core.Path.{_≡_}
@@ -11,10 +11,11 @@ use Rattle.record.specs.Layout.{recordAt}
 use Rattle.record.specs.declared.Record.{Record}
 use Rattle.book.specs.Lists.{All}
 use Rattle.book.specs.Shape.{Child, wellShaped, children, names, isOf}
-use Rattle.book.specs.Blocks.{recordCount, records}
+use Rattle.book.specs.Blocks.{recordCount, records, wildcards}
 use Rattle.book.specs.Faults.{recordOf, usedBefore, usedTwice, before, isKind, isUnionTombstone, under, fieldsGoHere, mayFollow}
 use Rattle.book.specs.Faults.{nameFault, deeperThan}
 use Rattle.book.specs.Refusal.{firstRefusal}
+use Rattle.book.specs.Answer.{accepted, readBook}
 
 -- the child of record n is an earlier record, of the group that the row of n says, and no child of an earlier one
 pub record IsChild (rs : List Record) (n : ℕ) (c : Child) : Type 0 where
@@ -53,5 +54,12 @@ pub record Readable (book : List ℕ) : Type 0 where
   pub in-range : (n : ℕ) → n < recordCount book → InRange book n
   pub well-formed : WellFormed (records book)
 
+-- Claims. Of a book that none of causes 1 to 8 refuses
 abbrev pub AcceptedIsReadable : Type 0
 AcceptedIsReadable = (book : List ℕ) → firstRefusal book ≡ none → Readable book
+
+-- and of one that reading answers for, with so many records and such a wildcard byte
+abbrev pub ReadIsReadable : Type 0
+ReadIsReadable =
+    (book : List ℕ) (n : ℕ) (w : Bool) → readBook book ≡ accepted n w →
+    Readable book × (n ≡ recordCount book) × (w ≡ wildcards book)

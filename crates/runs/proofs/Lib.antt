@@ -1,5 +1,6 @@
 pub mod Limited
 pub mod Known
+pub mod Reading
 pub mod Slips
 pub mod Edges
 pub mod Refused

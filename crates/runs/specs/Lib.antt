@@ -2,6 +2,7 @@ pub mod Books
 pub mod Compute
 pub mod Claims
 pub mod Known
+pub mod Reading
 pub mod Slips
 pub mod Edges
 pub mod Refused
