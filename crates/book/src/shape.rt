@@ -123,45 +123,45 @@ const TABLE: [[u8; 8]; 38] = [
     [ITEM, 36, 0, 2, MAYBE_STRING, UNUSED, UNUSED, UNUSED], // tombstone argument
 ];
 
-// The first row of each kind; the rows of a kind stand together.
+// The first row of each kind, ROWS for numbers that are no kind. The rows of a kind stand together.
 const FIRST: [u8; KINDS] = [
     ROWS,
-    0,
-    1,
-    2,
-    3,
-    4,
-    5,
-    6,
-    9,
-    10,
-    11,
-    13,
-    14,
-    15,
-    17,
-    18,
-    19,
+    0, // kind 1
+    1, // kind 2
+    2, // kind 3
+    3, // kind 4
+    4, // kind 5
+    5, // kind 6
+    6, // kind 7
+    9, // kind 8
+    10, // kind 9
+    11, // kind 10
+    13, // kind 11
+    14, // kind 12
+    15, // kind 13
+    17, // kind 14
+    18, // kind 15
+    19, // kind 16
     ROWS,
     ROWS,
     ROWS,
-    24,
-    25,
-    26,
-    27,
-    28,
-    29,
+    24, // kind 20
+    25, // kind 21
+    26, // kind 22
+    27, // kind 23
+    28, // kind 24
+    29, // kind 25
     ROWS,
     ROWS,
     ROWS,
     ROWS,
-    30,
-    31,
-    32,
-    33,
-    34,
-    35,
-    37,
+    30, // kind 30
+    31, // kind 31
+    32, // kind 32
+    33, // kind 33
+    34, // kind 34
+    35, // kind 35
+    37, // kind 36
 ];
 
 // A number of a row of the table.
