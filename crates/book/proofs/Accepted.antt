@@ -23,9 +23,8 @@ use Rattle.book.specs.First.{hasPlace}
 use Rattle.book.specs.Trees.{IsChild, IsRecord, InRange, Readable, AcceptedIsReadable, ReadIsReadable}
 use Rattle.book.proofs.First.{passed-by-all}
 use Rattle.book.proofs.Lists.{all-append}
-use Rattle.book.proofs.Records.{records-length}
+use Rattle.book.proofs.Records.{records-length, record-here}
 use Rattle.book.proofs.Trees.{not-so, both-not, both-so, none-passes}
-use Rattle.book.proofs.Marks.{record-here}
 use Rattle.book.proofs.Answers.{some-blocks, by-parts, last-few, counted}
 
 -- names that a field allows are below 4,096

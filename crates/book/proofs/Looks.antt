@@ -27,10 +27,10 @@ use Rattle.book.specs.Answer.{causeOf, refusalOf}
 use Rattle.book.specs.Rows.{rowAt}
 use Rattle.book.specs.Tables.{following, Used, Takes, Names, Depths, deepestOf, Counted, Placed, Kept, Ready, Looked}
 use Rattle.book.proofs.Trees.{both-not, none-passes}
-use Rattle.book.proofs.Records.{records-length}
+use Rattle.book.proofs.Records.{records-length, record-here}
 use Rattle.book.proofs.Scans.{Passed, scan-here, scan-on}
 use Rattle.book.proofs.Places.{before-next}
-use Rattle.book.proofs.Marks.{record-here, used-next, child-fault}
+use Rattle.book.proofs.Marks.{used-next, child-fault}
 use Rattle.book.proofs.Levels.{depth-fault, depths-next, deepest-few}
 
 -- the first that holds of causes 4 to 8 at record n

@@ -2,7 +2,7 @@
 -- Assumes nothing.
 use Prim.Native.Nat.{ℕ, zero, suc, _+_, _≤_, _<_}
 use mathlib.Core.Bool.{Bool, true, false, not, _||_, or-assoc, or-comm, or-false, or-true, true≢false}
-use mathlib.Core.List.{List, [], _∷_, _++_, map, append-nil, append-assoc}
+use mathlib.Core.List.{List, [], _∷_, _++_, append-nil, append-assoc}
 use mathlib.Core.Option.{some}
 use mathlib.Core.Path.{_≡_, refl, sym, ap, ap₂, _∙_}
 use native.Mathlib.Decide.{ℕ-discrete}
@@ -12,30 +12,13 @@ use lib.ListN.{length, getD, set, replicate, length-set, length-replicate, getD-
 use lib.Seq.{getD-set-same, getD-set-other}
 use borrow.Author.Tests.{leb-false, le-leb, lt-leb, eq-eqb, ne-eqb}
 use Rattle.record.specs.declared.Record.{Record}
-use Rattle.record.specs.Layout.{recordAt}
 use Rattle.book.specs.Lists.{any, from, upTo}
 use Rattle.book.specs.Shape.{Group, Field, unused, flag, bits, name, name?, string, string?, ordinal, free, child, child?}
 use Rattle.book.specs.Shape.{Row, Child, childIn, childrenBy, children, groupNumber, isOf}
-use Rattle.book.specs.Blocks.{recordCount, records}
 use Rattle.book.specs.Faults.{recordOf, uses, usedBefore, usedTwice, isWrong, childFault}
 use Rattle.book.specs.Rows.{rowAt, fieldNumber, cellIn, groupIn}
 use Rattle.book.specs.Tables.{Used, usedAgain, Takes}
 use Rattle.book.proofs.Cells.{field-a, field-b, field-c, group-some}
-use Rattle.book.proofs.Lists.{from-length}
-use Rattle.book.proofs.Members.{at-from}
-
--- element n of the results is the result of element n
-at-map : {A B : Type 0} (f : A → B) (l : List A) (n : ℕ) (d : A) (e : B) → n < length l → getD (map f l) n e ≡ f (getD l n d)
-at-map f [] n d e less = absurd (omega arith)
-at-map f (x ∷ l) zero d e less = refl
-at-map f (x ∷ l) (suc n) d e less = at-map f l n d e (omega arith)
-
--- a record of the book, in its list
-pub record-here : (book : List ℕ) (n : ℕ) → n < recordCount book → recordOf (records book) n ≡ recordAt book n
-unfolding recordOf records
-record-here book n less =
-    let here : n < length (upTo (recordCount book)) = omega (arith, from-length 0 (recordCount book)) in
-    at-map (recordAt book) (upTo (recordCount book)) n 0 _ here ∙ ap (recordAt book) (at-from 0 (recordCount book) n 0 less ∙ omega arith)
 
 -- a test of some elements behind others
 any-append : {A : Type 0} (test : A → Bool) (l r : List A) → any test (l ++ r) ≡ any test l || any test r

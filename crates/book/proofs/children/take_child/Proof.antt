@@ -13,7 +13,8 @@ use Rattle.book.specs.Shape.{Field, Child, childIn, isOf}
 use Rattle.book.specs.Blocks.{records}
 use Rattle.book.specs.Rows.{fieldNumber}
 use Rattle.book.specs.Tables.{Used, Takes}
-use Rattle.book.proofs.Marks.{record-here, take-none, take-late, take-early}
+use Rattle.book.proofs.Records.{record-here}
+use Rattle.book.proofs.Marks.{take-none, take-late, take-early}
 use Rattle.book.proofs.children.take_child.Statement.{statement}
 use Rattle.book.proofs.children.take_child.Tie as tie
 
