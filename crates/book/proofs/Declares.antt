@@ -3,7 +3,6 @@
 use Prim.Native.Nat.{ℕ, suc, _+_, _*_, _≤_, _<_}
 use mathlib.Core.Bool.{Bool, true, false, cond, _&&_, _||_, false≢true, or-true, or-false}
 use mathlib.Core.List.{List, [], _∷_, _++_}
-use mathlib.Core.Option.{Option, some, none}
 use mathlib.Core.Path.{_≡_, refl, sym, ap, _∙_}
 use native.Mathlib.Decide.{ℕ-discrete}
 use native.Mathlib.Omega.{arith}
@@ -12,13 +11,13 @@ use lib.ListN.{length, take, set, getD, replicate, length-set, length-replicate,
 use lib.Seq.{take-suc, getD-set-same, getD-set-other}
 use borrow.Author.Tests.{ltb-true, leb-true, eqb-true, le-leb, eq-eqb, ne-eqb}
 use Rattle.record.specs.declared.Record.{Record}
-use Rattle.book.specs.Lists.{All, any, find, keep}
-use Rattle.book.specs.Shape.{Row, table, name, allows, fits, rowOf, wellShaped}
+use Rattle.book.specs.Lists.{All, any, keep}
+use Rattle.book.specs.Shape.{table, name, allows, wellShaped}
 use Rattle.book.specs.Faults.{recordOf, nameSet, nameFault}
 use Rattle.book.specs.Tables.{Names}
-use Rattle.book.proofs.Lists.{either}
-use Rattle.book.proofs.Members.{keep-mem, of-all, first-mem, Found, found}
-use Rattle.book.proofs.Trees.{both-so, not-so}
+use Rattle.book.proofs.Lists.{any-more, either}
+use Rattle.book.proofs.Members.{keep-mem, of-all}
+use Rattle.book.proofs.Trees.{both-so, not-so, shaped-row}
 
 -- the kind is that of a declaration
 abbrev declares : ℕ → Bool
@@ -68,21 +67,13 @@ named-rows = (refl, (refl, (refl, (refl, (refl, (refl, tt))))))
 
 -- what declares a name has it in field a
 pub shaped-name : (r : Record) → wellShaped r ≡ true → 0 < nameSet r → r .a < 4096
-unfolding wellShaped rowOf allows
-shaped-name r shaped positive = go (find is-row table) (found is-row table) shaped
-  where
-    is-row : Row → Bool
-    is-row w = eqb (r .kind) (w .kind) && leb (w .low) (r .sub) && leb (r .sub) (w .high)
-
-    go : (o : Option Row) → Found is-row table o → fits r o ≡ true → r .a < 4096
-    go none f e = absurd (false≢true e)
-    go (some w) f e =
-        let (kind-low, _) = both-so (eqb (r .kind) (w .kind) && leb (w .low) (r .sub)) _ (f .passes) in
-        let (kind, _) = both-so (eqb (r .kind) (w .kind)) _ kind-low in
-        let is : declares (w .kind) ≡ true = ap declares (sym (eqb-true (r .kind) (w .kind) kind)) ∙ set-declares r positive in
-        let a-name : w .a ≡ name = of-all _ _ named-rows w (keep-mem _ (first-mem f) is) in
-        let inside : allows (w .a) (r .a) ≡ true = both-so _ _ (both-so _ _ (both-so _ _ e .0) .0) .0 in
-        ltb-true (r .a) 4096 (rw a-name at inside)
+unfolding allows
+shaped-name r shaped positive =
+    let (w, is) = shaped-row r shaped in
+    let declared : declares (w .kind) ≡ true = ap declares (sym (is .same-kind)) ∙ set-declares r positive in
+    let a-name : w .a ≡ name = of-all _ _ named-rows w (keep-mem _ (is .in-table) declared) in
+    let inside : allows (w .a) (r .a) ≡ true = both-so _ _ (both-so _ _ (both-so _ _ (is .inside) .0) .0) .0 in
+    ltb-true (r .a) 4096 (rw a-name at inside)
 
 -- before record 0 nothing is declared
 pub names-start : (rs : List Record) → Names rs 0 (replicate 12288 false)
@@ -92,21 +83,6 @@ names-start rs =
       long = length-replicate 12288 false;
       marks = λ s k low high. getD-replicate 12288 (4096 * s + k) false false (omega arith);
     }
-
-any-more : {A : Type 0} (test : A → Bool) (l : List A) (x : A) → any test (l ++ (x ∷ [])) ≡ any test l || test x
-unfolding any
-any-more test [] x = go (test x)
-  where
-    go : (b : Bool) → elim b [ true ↦ true | false ↦ false ] ≡ b
-    go true = refl
-    go false = refl
-any-more test (y ∷ l) x = go (test y) (any-more test l x)
-  where
-    go :
-        (b : Bool) → any test (l ++ (x ∷ [])) ≡ any test l || test x →
-        elim b [ true ↦ true | false ↦ any test (l ++ (x ∷ [])) ] ≡ elim b [ true ↦ true | false ↦ any test l ] || test x
-    go true e = refl
-    go false e = e
 
 -- a record declares name k in set s, counted from 0
 abbrev names-it : ℕ → ℕ → Record → Bool

@@ -1,13 +1,38 @@
 -- What holds of each element of a list, and of what may be there.
 -- Assumes nothing.
 use Prim.Native.Nat.{ℕ, zero, suc, _≤_, _<_}
-use mathlib.Core.Bool.{Bool, true, false, cond, false≢true}
+use mathlib.Core.Bool.{Bool, true, false, cond, _||_, false≢true}
 use mathlib.Core.List.{List, [], _∷_, _++_, map, List·Memᴰ, List·Memᴰ·head, List·Memᴰ·tail}
 use mathlib.Core.Option.{Option, some, none}
 use mathlib.Core.Path.{_≡_, refl, sym, ap, _∙_}
 use native.Mathlib.Omega.{arith}
 use lib.ListN.{length, drop, getD}
-use Rattle.book.specs.Lists.{All, find, keep, keepWhile, from}
+use Rattle.book.specs.Lists.{All, any, find, keep, keepWhile, from}
+
+-- a Boolean by its cases
+pub itself : (b : Bool) → elim b [ true ↦ true | false ↦ false ] ≡ b
+itself true = refl
+itself false = refl
+
+-- a test of some elements behind others, of one, and of one behind others
+module _ {A : Type 0} (test : A → Bool) where
+  pub any-append : (l r : List A) → any test (l ++ r) ≡ any test l || any test r
+  unfolding any
+  any-append [] r = refl
+  any-append (x ∷ l) r = go (test x) (any-append l r)
+    where
+      go :
+          (b : Bool) → any test (l ++ r) ≡ any test l || any test r →
+          elim b [ true ↦ true | false ↦ any test (l ++ r) ] ≡ elim b [ true ↦ true | false ↦ any test l ] || any test r
+      go true e = refl
+      go false e = e
+
+  pub any-one : (x : A) → any test (x ∷ []) ≡ test x
+  unfolding any
+  any-one x = itself (test x)
+
+  pub any-more : (l : List A) (x : A) → any test (l ++ (x ∷ [])) ≡ any test l || test x
+  any-more l x = any-append l (x ∷ []) ∙ ap (λ b. any test l || b) (any-one x)
 
 -- what holds both ways holds whichever is taken
 pub either : {A : Type 0} (P : A → Type 0) (b : Bool) {x y : A} → P x → P y → P (cond b x y)

@@ -18,27 +18,8 @@ use Rattle.book.specs.Shape.{Row, Child, childIn, childrenBy, children, 
 use Rattle.book.specs.Faults.{recordOf, uses, usedBefore, usedTwice, isWrong, childFault}
 use Rattle.book.specs.Rows.{rowAt, fieldNumber, cellIn, groupIn}
 use Rattle.book.specs.Tables.{Used, usedAgain, Takes}
+use Rattle.book.proofs.Lists.{any-append, any-one, any-more}
 use Rattle.book.proofs.Cells.{field-a, field-b, field-c, group-some}
-
--- a test of some elements behind others
-any-append : {A : Type 0} (test : A → Bool) (l r : List A) → any test (l ++ r) ≡ any test l || any test r
-unfolding any
-any-append test [] r = refl
-any-append test (x ∷ l) r = go (test x) (any-append test l r)
-  where
-    go :
-        (b : Bool) → any test (l ++ r) ≡ any test l || any test r →
-        elim b [ true ↦ true | false ↦ any test (l ++ r) ] ≡ elim b [ true ↦ true | false ↦ any test l ] || any test r
-    go true e = refl
-    go false e = e
-
-any-one : {A : Type 0} (test : A → Bool) (x : A) → any test (x ∷ []) ≡ test x
-unfolding any
-any-one test x = go (test x)
-  where
-    go : (b : Bool) → elim b [ true ↦ true | false ↦ false ] ≡ b
-    go true = refl
-    go false = refl
 
 -- one number more comes last
 from-last : (n m : ℕ) → from n (suc m) ≡ from n m ++ ((n + m) ∷ [])
@@ -54,8 +35,7 @@ used-before-next : (rs : List Record) (n k : ℕ) → usedBefore rs (suc n) k �
 unfolding usedBefore
 used-before-next rs n k =
     ap (any (λ m. uses k (recordOf rs m))) (up-to-last n)
-    ∙ any-append (λ m. uses k (recordOf rs m)) (upTo n) (n ∷ [])
-    ∙ ap (λ b. usedBefore rs n k || b) (any-one (λ m. uses k (recordOf rs m)) n)
+    ∙ any-more (λ m. uses k (recordOf rs m)) (upTo n) n
 
 -- before the first record none is used
 pub used-start : (rs : List Record) → Used rs 0 [] (replicate 1344 false)

@@ -1,25 +1,26 @@
 -- What the follow rule knows of the records before.
 -- Assumes nothing.
 use Prim.Native.Nat.{ℕ, suc, _+_, _≤_, _<_}
-use mathlib.Core.Bool.{Bool, true, false, cond, not, _&&_, _||_, false≢true, and-true, or-comm}
+use mathlib.Core.Bool.{Bool, true, false, cond, not, _&&_, _||_, and-true, or-comm}
 use mathlib.Core.List.{List, [], _∷_, _++_, reverse, reverse-append}
 use mathlib.Core.Option.{Option, some, none}
 use mathlib.Core.Path.{_≡_, refl, sym, ap, _∙_, subst}
 use native.Mathlib.Omega.{arith}
-use lib.Dec.{T, leb, ltb, eqb, eqb·zero-suc, ltb→lt}
+use lib.Dec.{T, ltb, eqb, eqb·zero-suc, ltb→lt}
 use lib.ListN.{length, take, drop}
 use lib.Seq.{take-suc}
 use borrow.Author.Tests.{leb-true, eqb-true, eqb-false, not-false, lt-ltb, le-ltb, le-leb, eq-eqb, ne-eqb}
 use Rattle.record.specs.declared.Record.{Record}
 use Rattle.book.specs.declared.follow.Place.{Place}
 use Rattle.book.specs.Lists.{All, any, find, keep}
-use Rattle.book.specs.Shape.{Row, table, rowOf, fits, wellShaped}
+use Rattle.book.specs.Shape.{Row, table, wellShaped}
 use Rattle.book.specs.Faults.{recordOf, before, isKind, isDeclaration, isUnionTombstone}
 use Rattle.book.specs.Faults.{firstIs, follows, under, variantOpen, fieldsGoHere, mayFollow}
 use Rattle.book.specs.Follow.{isOneOf, behind, followOf}
 use Rattle.book.specs.Tables.{Placed, kindOr0, following, hasRoom, openBehind}
-use Rattle.book.proofs.Members.{keep-mem, any-mem, of-all, Found, first-mem, found}
-use Rattle.book.proofs.Trees.{not-so, both-so, none-passes, withKind}
+use Rattle.book.proofs.Lists.{itself}
+use Rattle.book.proofs.Members.{keep-mem, any-mem, of-all}
+use Rattle.book.proofs.Trees.{not-so, both-so, none-passes, shaped-row, withKind}
 
 -- the records that the follow rule looks at: none before the first, and one more at most behind each
 keep-append : {A : Type 0} (test : A → Bool) (l r : List A) → keep test (l ++ r) ≡ keep test l ++ keep test r
@@ -71,25 +72,13 @@ abbrev ByRow : (Record → Type 0) → Record → Row → Type 0
 ByRow P r w = r .sub ≤ w .high → P (withKind (w .kind) r)
 
 by-row : (P : Record → Type 0) (r : Record) → wellShaped r ≡ true → 16 < r .kind → All (ByRow P r) tall → P r
-unfolding wellShaped rowOf table keep
-by-row P r shaped high p = go (rowOf r) (found is-row table) shaped
-  where
-    is-row : Row → Bool
-    is-row w = eqb (r .kind) (w .kind) && leb (w .low) (r .sub) && leb (r .sub) (w .high)
-
-    go : (o : Option Row) → Found is-row table o → fits r o ≡ true → P r
-    go none f e = absurd (false≢true e)
-    go (some w) f e =
-        let (first, at-most) = both-so (eqb (r .kind) (w .kind) && leb (w .low) (r .sub)) (leb (r .sub) (w .high)) (f .passes) in
-        let same = eqb-true (r .kind) (w .kind) (both-so _ (leb (w .low) (r .sub)) first .0) in
-        let m = keep-mem (λ w. ltb 16 (w .kind)) (first-mem f) (lt-ltb 16 (w .kind) (omega arith)) in
-        subst (λ k. P (withKind k r)) (sym same) (of-all (ByRow P r) tall p w m (leb-true _ _ at-most))
+unfolding table keep
+by-row P r shaped high p =
+    let (w, is) = shaped-row r shaped in
+    let m = keep-mem (λ w. ltb 16 (w .kind)) (is .in-table) (lt-ltb 16 (w .kind) (omega (arith, is .same-kind))) in
+    subst (λ k. P (withKind k r)) (sym (is .same-kind)) (of-all (ByRow P r) tall p w m (is .at-most))
 
 -- the first that passes, by its kind
-itself : (b : Bool) → elim b [ true ↦ true | false ↦ false ] ≡ b
-itself true = refl
-itself false = refl
-
 first-is : (test : Record → Bool) (k : ℕ) (bs : List Record) → firstIs test (suc k) bs ≡ eqb (kindOr0 (find test bs)) (suc k)
 unfolding firstIs any
 first-is test k bs = go (find test bs) refl

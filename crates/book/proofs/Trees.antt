@@ -2,8 +2,8 @@
 -- Assumes nothing.
 use Prim.Native.Nat.{ℕ, zero, suc, _+_, _≤_, _<_}
 use mathlib.Core.Bool.{Bool, true, false, cond, _&&_, _||_, false≢true, true≢false}
-use mathlib.Core.List.{List, [], _∷_}
-use mathlib.Core.Option.{Option, some}
+use mathlib.Core.List.{List, [], _∷_, List·Memᴰ}
+use mathlib.Core.Option.{Option, some, none}
 use mathlib.Core.Path.{_≡_, refl, sym, _∙_, subst}
 use native.Mathlib.Omega.{arith}
 use lib.Dec.{leb, eqb}
@@ -12,9 +12,10 @@ use borrow.Author.Tests.{leb-true, eqb-true}
 use Rattle.record.specs.declared.Record.{Record}
 use Rattle.book.specs.Lists.{All, any, find, keep}
 use Rattle.book.specs.Shape.{Group, inGroup}
-use Rattle.book.specs.Shape.{Row, table, rowOf, Child, childrenBy, children, isOf}
+use Rattle.book.specs.Shape.{Row, table, isRow, rowOf, fits, wellShaped, Child, childrenBy, children, isOf}
 use Rattle.book.specs.Faults.{recordOf, deeperThan}
 use Rattle.book.specs.Trees.{WellFormed}
+use Rattle.book.proofs.Members.{Found, first-mem, found}
 
 -- what a Boolean is by what it is not, and by its parts
 pub not-so : (b : Bool) → (b ≡ true → ⊥) → b ≡ false
@@ -52,6 +53,32 @@ module _ {A : Type 0} where
       go true t e rest = absurd (true≢false e)
       go false t e rest = (f x t, rest e)
 
+-- the row of a record that has the shape of one
+pub record RowIs (r : Record) (w : Row) : Type 0 where
+  pub in-table : List·Memᴰ w table
+  pub same-kind : r .kind ≡ w .kind
+  pub at-least : w .low ≤ r .sub
+  pub at-most : r .sub ≤ w .high
+  pub inside : fits r (some w) ≡ true
+
+pub shaped-row : (r : Record) → wellShaped r ≡ true → (w : Row) × RowIs r w
+unfolding wellShaped rowOf
+shaped-row r shaped = go (rowOf r) (found (isRow r) table) shaped
+  where
+    go : (o : Option Row) → Found (isRow r) table o → fits r o ≡ true → (w : Row) × RowIs r w
+    go none f e = absurd (false≢true e)
+    go (some w) f e =
+        let (k, low, high) = all-three (eqb (r .kind) (w .kind)) (leb (w .low) (r .sub)) (leb (r .sub) (w .high)) (f .passes) in (
+          w,
+          record {
+            in-table = first-mem f;
+            same-kind = eqb-true _ _ k;
+            at-least = leb-true _ _ low;
+            at-most = leb-true _ _ high;
+            inside = e;
+          },
+        )
+
 -- the rows of a group
 abbrev rowsOf : Group → List Row
 rowsOf g = keep (λ w. inGroup g (some w)) table
@@ -70,12 +97,9 @@ pub by-row :
 unfolding isOf rowOf find keep
 by-row P g r = go table
   where
-    is-row : Row → Bool
-    is-row w = eqb (r .kind) (w .kind) && leb (w .low) (r .sub) && leb (r .sub) (w .high)
-
     step :
         (w : Row) (l : List Row) (o : Option Row) → (inGroup g o ≡ true → All (ByRow P r) l → P r o) →
-        (b b′ : Bool) → is-row w ≡ b → inGroup g (some w) ≡ b′ →
+        (b b′ : Bool) → isRow r w ≡ b → inGroup g (some w) ≡ b′ →
         inGroup g (elim b [ true ↦ some w | false ↦ o ]) ≡ true → All (ByRow P r) (cond b′ (w ∷ l) l) →
         P r (elim b [ true ↦ some w | false ↦ o ])
     step w l o next true true e f is p =
@@ -86,10 +110,10 @@ by-row P g r = go table
     step w l o next false false e f is p = next is p
 
     go :
-        (l : List Row) → inGroup g (find is-row l) ≡ true → All (ByRow P r) (keep (λ w. inGroup g (some w)) l) →
-        P r (find is-row l)
+        (l : List Row) → inGroup g (find (isRow r) l) ≡ true → All (ByRow P r) (keep (λ w. inGroup g (some w)) l) →
+        P r (find (isRow r) l)
     go [] is p = absurd (false≢true is)
-    go (w ∷ l) is p = step w _ (find is-row l) (go l) (is-row w) (inGroup g (some w)) refl refl is p
+    go (w ∷ l) is p = step w _ (find (isRow r) l) (go l) (isRow r w) (inGroup g (some w)) refl refl is p
 
 -- of a record and its children
 pub by-rows :

@@ -17,32 +17,13 @@ use Rattle.book.specs.declared.Cause.the-variants.{BookLength}
 use Rattle.book.proofs.Answers.{by-length, some-blocks, by-blocks, by-records, counted, answer-refused}
 use Rattle.book.proofs.read_book.Statement.{statement}
 use Rattle.book.proofs.read_book.Tie as tie
-use Rattle.book.proofs.read_book.Reads as reads
-use Rattle.book.proofs.read_book.Lts as lts
-use Rattle.book.proofs.blocks.length_fault.Reads as length-fault
-use Rattle.book.proofs.blocks.first_fault.Reads as first-fault
-use Rattle.book.proofs.blocks.record_count.Reads as record-count
-use Rattle.book.proofs.read_records.Reads as read-records
-
--- what the functions that are called promise, in the order of the calls
-abbrev claims : lts.Claims
-claims = (
-  length-fault.Asked,
-  length-fault.Learnt,
-  first-fault.Asked,
-  first-fault.Learnt,
-  record-count.Asked,
-  record-count.Learnt,
-  read-records.Asked,
-  read-records.Learnt,
-)
 
 -- the places where the length is right, and where the blocks are
 abbrev Behind-length : Type 0
-Behind-length = lts.Else1 claims reads.Pre reads.Post
+Behind-length = tie.Else1
 
 abbrev Behind-blocks : Type 0
-Behind-blocks = lts.After-enum-told claims reads.Pre reads.Post
+Behind-blocks = tie.After-enum-told
 
 abbrev book : Behind-length → List ℕ
 book c = now (c .before .before .before .args .book)

@@ -1,34 +1,10 @@
--- The children of a record stand in its fields a, b and c, as its row says.
+-- `book::depth::deepest` meets its contract: the children of a record stand in its fields a, b and c, as its row says.
 -- Assumes nothing.
 use denote.Ref.{now}
 use borrow.Author.Needs.{needs}
 use Rattle.book.proofs.Levels.{deepest-by}
 use Rattle.book.proofs.depth.deepest.Statement.{statement}
 use Rattle.book.proofs.depth.deepest.Tie as tie
-
-cell-requires : tie.Need-cell-requires
-cell-requires c κs = search needs
-
-levels-in-requires : tie.Need-levels-in-requires
-levels-in-requires c κs = search needs
-
-cell-requires-2 : tie.Need-cell-requires-2
-cell-requires-2 c κs = search needs
-
-levels-in-requires-2 : tie.Need-levels-in-requires-2
-levels-in-requires-2 c κs = search needs
-
-cell-requires-3 : tie.Need-cell-requires-3
-cell-requires-3 c κs = search needs
-
-levels-in-requires-3 : tie.Need-levels-in-requires-3
-levels-in-requires-3 c κs = search needs
-
-larger-requires : tie.Need-larger-requires
-larger-requires c κs = search needs
-
-larger-requires-2 : tie.Need-larger-requires-2
-larger-requires-2 c κs = search needs
 
 returns : tie.Need-returns
 returns c =
@@ -47,12 +23,12 @@ pub deepest-spec : {M : Type 1} → statement M
 deepest-spec =
     tie.close
     (tie.spec
-    cell-requires
-    levels-in-requires
-    cell-requires-2
-    levels-in-requires-2
-    cell-requires-3
-    levels-in-requires-3
-    larger-requires
-    larger-requires-2
+    (λ c κs. search needs)
+    (λ c κs. search needs)
+    (λ c κs. search needs)
+    (λ c κs. search needs)
+    (λ c κs. search needs)
+    (λ c κs. search needs)
+    (λ c κs. search needs)
+    (λ c κs. search needs)
     returns)

@@ -1,4 +1,5 @@
--- A field names no child, or the one with its number, whose levels stand in the table; past the table's end there are none.
+-- `book::depth::levels_in` meets its contract. A field names no child, or the one with its number, whose levels stand in the table; past the
+-- table's end there are none.
 -- Assumes nothing.
 use mathlib.Core.Bool.{true, false}
 use denote.Ref.{now}
@@ -6,9 +7,6 @@ use borrow.Author.Needs.{needs}
 use Rattle.book.proofs.Levels.{levels-in, levels-there}
 use Rattle.book.proofs.depth.levels_in.Statement.{statement}
 use Rattle.book.proofs.depth.levels_in.Tie as tie
-
-child-in-requires : tie.Need-child-in-requires
-child-in-requires c κs = search needs
 
 returns : tie.Need-returns
 returns c g is =
@@ -24,4 +22,4 @@ returns-2 c g is =
     levels-in (now (a .depths)) (a .x) g (c .before .before .child-in .ensures g is) false (c .before .if1 .left)
 
 pub levels-in-spec : {M : Type 1} → statement M
-levels-in-spec = tie.close (tie.spec child-in-requires returns shared-slice-read-result returns-2)
+levels-in-spec = tie.close (tie.spec (λ c κs. search needs) returns shared-slice-read-result returns-2)

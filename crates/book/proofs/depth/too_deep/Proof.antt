@@ -1,4 +1,4 @@
--- Each branch tests the levels as the definition does for the kinds of that branch.
+-- `book::depth::too_deep` meets its contract: each branch tests the levels as the definition does for the kinds of that branch.
 -- Assumes nothing.
 use mathlib.Core.Path.{refl}
 use borrow.Author.Tests.{lt-ltb, le-ltb}

@@ -1,4 +1,5 @@
--- A record that goes where fields go is no variant and no tombstone of the union itself, so one test at most passes.
+-- `book::follow::has_room` meets its contract. A record that goes where fields go is no variant and no tombstone of the union itself, so one
+-- test at most passes.
 -- Assumes nothing.
 use mathlib.Core.Bool.{true, false}
 use Rattle.book.proofs.Places.{field-room, other-room}

@@ -1,4 +1,4 @@
--- Kinds up to 16 stand anywhere; of the others the table and the room tell together.
+-- `book::follow::may_follow` meets its contract. Kinds up to 16 stand anywhere; of the others the table and the room tell together.
 -- Assumes nothing.
 use mathlib.Core.Path.{sym}
 use native.Mathlib.Omega.{arith}
@@ -13,9 +13,6 @@ returns c = λ bs h. sym (not-item _ bs (omega arith))
 follows-requires : tie.Need-follows-requires
 follows-requires c κs = (kind-below _ (c .before .before .pre .1), kind-below _ (stands-behind _ (c .before .before .pre .0) (omega arith)))
 
-has-room-requires : tie.Need-has-room-requires
-has-room-requires c κs = search needs
-
 returns-2 : tie.Need-returns-2
 returns-2 c =
     λ bs h.
@@ -23,4 +20,4 @@ returns-2 c =
     (may-follow bs _ h _ (c .before .before .before .before .pre .0) (omega arith))
 
 pub may-follow-spec : {M : Type 1} → statement M
-may-follow-spec = tie.close (tie.spec returns follows-requires has-room-requires returns-2)
+may-follow-spec = tie.close (tie.spec returns follows-requires (λ c κs. search needs) returns-2)

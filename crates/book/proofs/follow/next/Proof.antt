@@ -1,4 +1,5 @@
--- Behind a record of a kind up to 16 the place stays; behind another each part of it follows from the part before.
+-- `book::follow::next` meets its contract. Behind a record of a kind up to 16 the place stays; behind another each part of it follows from the
+-- part before.
 -- Assumes nothing.
 use mathlib.Core.Logic.{⊎-elim}
 use borrow.Author.Needs.{needs}
@@ -9,9 +10,6 @@ use Rattle.book.proofs.follow.next.Tie as tie
 returns : tie.Need-returns
 returns c = λ bs h shaped may. placed-same _ bs _ (c .if1 .taken) h
 
-open-behind-requires : tie.Need-open-behind-requires
-open-behind-requires c κs = search needs
-
 returns-2 : tie.Need-returns-2
 returns-2 c =
     λ bs h shaped may.
@@ -20,4 +18,4 @@ returns-2 c =
     (c .open-behind .ensures)
 
 pub next-spec : {M : Type 1} → statement M
-next-spec = tie.close (tie.spec returns open-behind-requires returns-2)
+next-spec = tie.close (tie.spec returns (λ c κs. search needs) returns-2)

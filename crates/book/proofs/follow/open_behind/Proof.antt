@@ -1,4 +1,4 @@
--- Each arm of the match is a case of the definition.
+-- `book::follow::open_behind` meets its contract: each arm is a case of the definition.
 -- Assumes nothing.
 use native.Mathlib.Omega.{arith}
 use Rattle.book.proofs.Places.{open-behind-declaration, open-behind-tombstone, open-behind-other}

@@ -1,4 +1,4 @@
--- With no record before, all that a place says is that there is none.
+-- `book::follow::start` meets its contract: with no record before, all that a place says is that there is none.
 -- Assumes nothing.
 use Rattle.book.proofs.Places.{placed-start}
 use Rattle.book.proofs.follow.start.Statement.{statement}

@@ -1,4 +1,5 @@
--- Each name of each set has a place of its own in the table. What stood at the place of the record's name is the answer.
+-- `book::names::declare` meets its contract. Each name of each set has a place of its own in the table; what stood at the place of the record's
+-- name is the answer.
 -- Assumes nothing.
 use Prim.Native.Nat.{suc, _+_, _-_, _*_, _<_}
 use mathlib.Core.Path.{_≡_}
@@ -10,26 +11,8 @@ use Rattle.book.proofs.Declares.{few-sets, declares-none, declares-one}
 use Rattle.book.proofs.names.declare.Statement.{statement}
 use Rattle.book.proofs.names.declare.Tie as tie
 
-name-set-requires : tie.Need-name-set-requires
-name-set-requires c κs = search needs
-
-cast-set : tie.Need-cast-set
-cast-set c = search needs
-
 returns : tie.Need-returns
 returns c rs n known less is = declares-none known less is (omega (arith, c .before .name-set .ensures))
-
-sub-at : tie.Need-sub-at
-sub-at c = search needs
-
-mul-at : tie.Need-mul-at
-mul-at c = search needs
-
-cast-at : tie.Need-cast-at
-cast-at c = search needs
-
-add-at : tie.Need-add-at
-add-at c = search needs
 
 -- the record declares in a set, and has the name in field a
 module _ (c : tie.After-struct-known) where
@@ -58,13 +41,13 @@ pub declare-spec : {M : Type 1} → statement M
 declare-spec =
     tie.close
     (tie.spec
-    name-set-requires
-    cast-set
+    (λ c κs. search needs)
+    (λ c. search needs)
     returns
-    sub-at
-    mul-at
-    cast-at
-    add-at
+    (λ c. search needs)
+    (λ c. search needs)
+    (λ c. search needs)
+    (λ c. search needs)
     element-copy-out-again
     element-write-names
     returns-2)

@@ -1,4 +1,4 @@
--- Each arm gives the set that the records of its kinds declare in.
+-- `book::names::name_set` meets its contract: each arm gives the set that the records of its kinds declare in.
 -- Assumes nothing.
 use mathlib.Core.Path.{refl}
 use native.Mathlib.Omega.{arith}

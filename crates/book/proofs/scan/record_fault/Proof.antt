@@ -18,59 +18,28 @@ use Rattle.book.proofs.Looks.{right-children, not-following, named-agai
 use Rattle.book.proofs.Declares.{shaped-name}
 use Rattle.book.proofs.scan.record_fault.Statement.{statement}
 use Rattle.book.proofs.scan.record_fault.Tie as tie
-use Rattle.book.proofs.scan.record_fault.Reads as reads
-use Rattle.book.proofs.scan.record_fault.Lts as lts
-use Rattle.book.proofs.shape.row_of.Reads as row-of
-use Rattle.book.proofs.scan.fault.Reads as fault
-use Rattle.book.proofs.shape.fits.Reads as fits
-use Rattle.book.proofs.children.take_children.Reads as take-children
-use Rattle.book.proofs.follow.may_follow.Reads as may-follow
-use Rattle.book.proofs.names.declare.Reads as declare
-use Rattle.book.proofs.depth.deepest.Reads as deepest
-use Rattle.book.proofs.depth.too_deep.Reads as too-deep-reads
-
--- what the functions that are called promise, in the order of the calls
-abbrev claims : lts.Claims
-claims = (
-  row-of.Asked,
-  row-of.Learnt,
-  fault.Asked,
-  fault.Learnt,
-  fits.Asked,
-  fits.Learnt,
-  take-children.Asked,
-  take-children.Learnt,
-  may-follow.Asked,
-  may-follow.Learnt,
-  declare.Asked,
-  declare.Learnt,
-  deepest.Asked,
-  deepest.Learnt,
-  too-deep-reads.Asked,
-  too-deep-reads.Learnt,
-)
 
 -- the places behind `row_of`, and behind each test that a record passes
 abbrev Behind-row : Type 0
-Behind-row = lts.After-row-of claims reads.Pre reads.Post
+Behind-row = tie.After-row-of
 
 abbrev Behind-shape : Type 0
-Behind-shape = lts.Else2 claims reads.Pre reads.Post
+Behind-shape = tie.Else2
 
 abbrev Behind-children : Type 0
-Behind-children = lts.Else3 claims reads.Pre reads.Post
+Behind-children = tie.Else3
 
 abbrev Behind-follow : Type 0
-Behind-follow = lts.Else4 claims reads.Pre reads.Post
+Behind-follow = tie.Else4
 
 abbrev Behind-name : Type 0
-Behind-name = lts.Else5 claims reads.Pre reads.Post
+Behind-name = tie.Else5
 
 -- from each place back to `row_of`, to what is known at the start, and to the marks of the children
 abbrev row : Behind-shape → Behind-row
 row c = c .before .before .before
 
-abbrev start : Behind-row → lts.Start claims reads.Pre reads.Post
+abbrev start : Behind-row → tie.Start
 start c = c .before .before
 
 abbrev shape : Behind-children → Behind-shape
@@ -105,7 +74,7 @@ stands c =
 
 -- what `declare` says of the name
 declared :
-    (c : lts.After-declare claims reads.Pre reads.Post) →
+    (c : tie.After-declare) →
     let a = start (row (shape (children (c .before .before)))) .args in
     (c .declare .result ≡ nameFault (records (now (a .book))) (a .n))
     × Names (records (now (a .book))) (suc (a .n)) (c .declare .last .1 .0)
