@@ -18,7 +18,7 @@ use Rattle.book.specs.Trees.{IsChild, WellFormed}
 use Rattle.book.proofs.Members.{mem-keep, mem-up-to}
 use Rattle.book.proofs.Trees.{withKind}
 use Rattle.constants.specs.Order.{Constant}
-use Rattle.constants.specs.Declared.{constantAt, constants}
+use Rattle.constants.specs.OfBook.{constantAt, constants}
 
 -- the constant is the one at record n
 abbrev pub IsAt : Book → Constant → ℕ → Type 0

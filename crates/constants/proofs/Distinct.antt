@@ -1,26 +1,24 @@
--- A name is declared by one constant in an accepted book: a second one would be refused by cause 7.
+-- A name is declared by one constant in the records of an accepted book: a second one would be refused by cause 7.
 -- Assumes nothing.
 use Prim.Native.Nat.{ℕ, _<_}
-use mathlib.Core.Bool.{true}
+use mathlib.Core.Bool.{true, true≢false}
 use mathlib.Core.List.{List, List·Memᴰ}
 use mathlib.Core.Path.{_≡_, refl, sym, ap, _∙_}
 use native.Mathlib.Omega.{arith}
 use lib.ListN.{length, take}
-use borrow.Author.Tests.{lt-ltb, eq-eqb}
+use borrow.Author.Tests.{eq-eqb}
 use Rattle.record.specs.declared.Record.{Record}
-use Rattle.book.specs.Blocks.{recordCount, records}
 use Rattle.book.specs.Faults.{recordOf, nameSet, nameFault}
-use Rattle.book.specs.Refusal.{name, at, faulty}
-use Rattle.book.specs.First.{hasPlace}
-use Rattle.book.specs.Outline.{read}
-use Rattle.book.proofs.First.{passed-by-all}
+use Rattle.book.specs.Outline.{Book, read}
+use Rattle.book.specs.Trees.{WellFormed}
 use Rattle.book.proofs.Members.{mem-any, at-mem-take}
-use Rattle.book.proofs.Records.{records-length}
-use Rattle.constants.specs.Declared.{constantAt}
+use Rattle.book.proofs.Accepted.{accepted-is-readable}
+use Rattle.constants.specs.Theory.{Distinct}
+use Rattle.constants.specs.OfBook.{constantAt, constants}
 use Rattle.constants.specs.SameTrees.{AcceptedIsDistinct}
 use Rattle.constants.proofs.Declared.{declared-at}
 
-set-of-constants : (r : Record) → r .kind ≡ 24 → nameSet r ≡ 2
+pub set-of-constants : (r : Record) → r .kind ≡ 24 → nameSet r ≡ 2
 unfolding nameSet
 set-of-constants r e = rw (e, nameSet) refl
 
@@ -39,16 +37,20 @@ declared-again rs j k less first is is′ same =
     (mem-any _ (before rs j k less first)
     (rw (set-of-constants (recordOf rs j) is, eq-eqb (recordOf rs j .a) (recordOf rs k .a) same) refl))
 
-pub accepted-is-distinct : AcceptedIsDistinct
-unfolding read constantAt hasPlace faulty
-accepted-is-distinct book e c d m n same =
-    let (at-c, less, is) = declared-at (read book) m in
-    let (at-d, less′, is′) = declared-at (read book) n in
+-- in well-formed records
+pub distinct : (book : Book) → WellFormed (book .records) → Distinct (constants book)
+unfolding constantAt
+distinct book sound c d m n same =
+    let (at-c, less, is) = declared-at book m in
+    let (at-d, less′, is′) = declared-at book n in
     let names = ap (λ c. c .name) (sym at-c) ∙ same ∙ ap (λ c. c .name) at-d in
-    let up : ¬ (c .place < d .place) = λ first. refuses (d .place) less′ (declared-again _ _ _ less first is is′ names) in
-    let down : ¬ (d .place < c .place) = λ first. refuses (c .place) less (declared-again _ _ _ less′ first is′ is (sym names)) in
+    let up : ¬ (c .place < d .place) =
+    λ first. true≢false (sym (declared-again _ _ _ less first is is′ names) ∙ sound (d .place) less′ .new-name) in
+    let down : ¬ (d .place < c .place) =
+    λ first. true≢false (sym (declared-again _ _ _ less′ first is′ is (sym names)) ∙ sound (c .place) less .new-name) in
     let places : c .place ≡ d .place = omega arith in
-    at-c ∙ ap (constantAt (read book)) places ∙ sym at-d
-  where
-    refuses : (k : ℕ) → k < length (records book) → nameFault (records book) k ≡ true → ⊥
-    refuses k less = passed-by-all book .0 e (at name k) (lt-ltb k (recordCount book) (omega (arith, records-length book)))
+    at-c ∙ ap (constantAt book) places ∙ sym at-d
+
+pub accepted-is-distinct : AcceptedIsDistinct
+unfolding read
+accepted-is-distinct book e = distinct (read book) (accepted-is-readable book e .well-formed)

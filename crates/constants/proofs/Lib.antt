@@ -4,6 +4,9 @@ pub mod SameTrees
 pub mod Values
 pub mod Named
 pub mod Whole
+pub mod Nodes
+pub mod Seen
+pub mod Subs
 pub mod Tests
 pub mod Order
 pub mod Eval
@@ -11,3 +14,13 @@ pub mod Carry
 pub mod Final
 pub mod Changes
 pub mod Stored
+pub mod References
+pub mod Numbered
+pub mod Declaring
+pub mod Turns
+pub mod Admitting
+pub mod Searching
+pub mod Settles
+pub mod Earliest
+pub mod Arrays
+pub mod Settling

@@ -6,7 +6,7 @@ use Rattle.book.specs.Lists.{All}
 use Rattle.book.specs.Outline.{Book, _!_}
 use Rattle.constants.specs.Eval.{Table, empty}
 use Rattle.constants.specs.Order.{Constant, settle, outcome}
-use Rattle.constants.specs.Declared.{constantAt, settled}
+use Rattle.constants.specs.OfBook.{constantAt, settled}
 use Rattle.constants.proofs.Values.{all-ordered}
 
 -- what is settled are these constants

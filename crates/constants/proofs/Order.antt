@@ -72,7 +72,7 @@ has-first n m ns e = go (eqb m n) refl e
     go true q e = inl (eqb-true m n q)
     go false q e = inr e
 
-has-later : (n m : ℕ) (ns : List ℕ) → has n ns ≡ true → has n (m ∷ ns) ≡ true
+pub has-later : (n m : ℕ) (ns : List ℕ) → has n ns ≡ true → has n (m ∷ ns) ≡ true
 has-later n m ns h = mem-has (List·Memᴰ·tail (has-mem n ns h))
 
 stays-done : (taken : List Constant) (done : List ℕ) (n : ℕ) → has n done ≡ true → has n (doneBy taken done) ≡ true

@@ -24,10 +24,10 @@ use Rattle.constants.specs.Expr.{Literal, int, uint, float, hex, bool, l
 use Rattle.constants.specs.Expr.{Op, add, sub, mul, div, eq, ne, lt, le, gt, ge, opOf}
 use Rattle.constants.specs.Expr.{Expr, literal, reference, operation, exprOf, exprAt}
 use Rattle.constants.specs.Order.{Constant}
-use Rattle.constants.specs.Declared.{constantAt, constants}
+use Rattle.constants.specs.OfBook.{constantAt, constants}
 use Rattle.constants.specs.SameTrees.{Side, left, right, childAt, Seen, seen, standsAt, SameTreesAreEqual, SameExpressionsAreEqual}
 use Rattle.constants.proofs.Declared.{declared-at, expression-is-child}
-use Rattle.constants.proofs.Whole.{whole-expressions}
+use Rattle.constants.proofs.Whole.{one-more}
 
 -- the subs of literals and operations
 literalSub : Literal → ℕ
@@ -143,19 +143,15 @@ module _ (rs : List Record) (side : Side) (way : List Side) where
 
 -- what stands at a place of a tree stands there in its expression
 module _ (rs : List Record) (sound : WellFormed rs) where
-  one-more : (n : ℕ) → n < length rs → isOf constant (recordOf rs n) ≡ true → exprAt 64 rs n ≡ exprOf (exprAt 64 rs) (recordOf rs n)
-  unfolding exprAt
-  one-more n less is = sym (whole-expressions rs sound n less is 1)
-
   stands :
       (place : List Side) (n : ℕ) → n < length rs → isOf constant (recordOf rs n) ≡ true →
       standsAt rs n place ≡ standsIn place (exprAt 64 rs n)
   unfolding standsAt
   stands [] n less is =
-      ap some (sym (top (exprAt 64 rs) (recordOf rs n) is (sound n less .shaped)) ∙ ap seenOf (sym (one-more n less is)))
+      ap some (sym (top (exprAt 64 rs) (recordOf rs n) is (sound n less .shaped)) ∙ ap seenOf (sym (one-more rs sound n less is)))
   stands (side ∷ way) n less is =
       below rs side way (exprAt 64 rs) n (λ m h. stands way m (omega arith)) (recordOf rs n) is (sound n less .children-are)
-      ∙ ap (standsIn (side ∷ way)) (sym (one-more n less is))
+      ∙ ap (standsIn (side ∷ way)) (sym (one-more rs sound n less is))
 
 -- expressions that agree at every place are equal: what stands on top says which they are
 abbrev Agree : Expr → Expr → Type 0

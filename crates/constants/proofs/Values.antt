@@ -24,7 +24,7 @@ use Rattle.constants.specs.Expr.{Op, add, sub, mul, div, eq, ne, lt, le,
 use Rattle.constants.specs.Expr.{Expr, literal, reference, operation, exprOf, exprAt}
 use Rattle.constants.specs.Eval.{Table, empty, store, literalValue, apply, applyTo, evalConstExpr}
 use Rattle.constants.specs.Order.{Constant, each, order, settle, outcome}
-use Rattle.constants.specs.Declared.{constantAt, constants, settled}
+use Rattle.constants.specs.OfBook.{constantAt, constants, settled}
 use Rattle.constants.specs.Values.{IsI64, SettledAreI64}
 use Rattle.constants.proofs.Order.{taken-declared, order-is-in-turn}
 

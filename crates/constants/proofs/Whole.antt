@@ -2,12 +2,15 @@
 -- Assumes nothing.
 use Prim.Native.Nat.{ℕ, _<_}
 use mathlib.Core.Bool.{true}
-use mathlib.Core.Path.{_≡_, refl}
+use mathlib.Core.List.{List}
+use mathlib.Core.Path.{_≡_, refl, sym}
 use native.Mathlib.Omega.{arith}
+use lib.ListN.{length}
 use Rattle.record.specs.declared.Record.{Record}
 use Rattle.book.specs.Lists.{All, keep}
 use Rattle.book.specs.Shape.{constant, table, Child, childIn, children, isOf}
 use Rattle.book.specs.Faults.{recordOf}
+use Rattle.book.specs.Trees.{WellFormed}
 use Rattle.book.proofs.Trees.{by-rows, whole}
 use Rattle.constants.specs.Expr.{Expr, operation, opOf, exprOf, exprAt}
 use Rattle.constants.specs.Whole.{WholeExpressions}
@@ -32,3 +35,10 @@ unfolding exprAt
 whole-expressions rs sound =
     whole rs (λ r. isOf constant r ≡ true) (λ d. exprAt d rs) sound low
     (λ d e n. same (exprAt d rs) (exprAt e rs) _ (λ m h. h .1 (h .0)) (recordOf rs n))
+
+-- so it is what its record gives, from the whole trees of its children
+pub one-more :
+    (rs : List Record) → WellFormed rs → (n : ℕ) → n < length rs → isOf constant (recordOf rs n) ≡ true →
+    exprAt 64 rs n ≡ exprOf (exprAt 64 rs) (recordOf rs n)
+unfolding exprAt
+one-more rs sound n less is = sym (whole-expressions rs sound n less is 1)

@@ -5,7 +5,9 @@ pub mod Leads
 pub mod Stored
 pub mod Theory
 pub mod Changes
-pub mod Declared
+pub mod OfBook
 pub mod Values
 pub mod Whole
 pub mod SameTrees
+pub mod Tables
+pub mod Evaluated

@@ -15,7 +15,7 @@ use Rattle.book.specs.Outline.{Book, read, _!_}
 use Rattle.book.specs.Trees.{WellFormed}
 use Rattle.constants.specs.Expr.{exprAt}
 use Rattle.constants.specs.Order.{Constant}
-use Rattle.constants.specs.Declared.{constants}
+use Rattle.constants.specs.OfBook.{constants}
 use Rattle.constants.specs.Theory.{Distinct}
 
 -- an operation has two children: "12 operation ([..]; a, b)"

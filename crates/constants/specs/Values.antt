@@ -9,7 +9,7 @@ use Rattle.record.specs.Bytes.{AreBytes}
 use Rattle.arith.specs.Word.{MIN, MAX}
 use Rattle.book.specs.Lists.{All}
 use Rattle.book.specs.Outline.{read}
-use Rattle.constants.specs.Declared.{settled}
+use Rattle.constants.specs.OfBook.{settled}
 
 -- a value, if there is one, is an i64
 abbrev pub IsI64 : Option ℤ → Type 0

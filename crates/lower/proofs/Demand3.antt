@@ -11,7 +11,7 @@ use Rattle.book.specs.Outline.{read}
 use Rattle.book.specs.Refusal.{firstRefusal}
 use Rattle.constants.specs.Eval.{empty}
 use Rattle.constants.specs.Order.{Constant, each, Reached}
-use Rattle.constants.specs.Declared.{constants}
+use Rattle.constants.specs.OfBook.{constants}
 use Rattle.constants.specs.Theory.{Distinct, Stores}
 use Rattle.constants.specs.Changes.{DeclaresAll}
 use Rattle.constants.proofs.Tests.{declares-mem}

@@ -17,7 +17,7 @@ use Rattle.book.specs.Refusal.{Refusal, number, firstRefusal}
 use Rattle.book.specs.First.{IsFirst}
 use Rattle.book.specs.Outline.{read}
 use Rattle.book.proofs.First.{same, refused-by-the-first, passed-by-all}
-use Rattle.constants.specs.Declared.{settled}
+use Rattle.constants.specs.OfBook.{settled}
 use Rattle.types.specs.Lowering.{Limits, State, start, Stop, tooDeep, full, stopNumber, Out, finished, stopped, run}
 use Rattle.types.specs.Resolved.{Names}
 use Rattle.types.specs.Events.{written, told, placeAfter, behind, StopsAt, Fits}

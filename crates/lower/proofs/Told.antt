@@ -24,7 +24,7 @@ use Rattle.constants.proofs.Values.{settled-are-i64}
 use Rattle.book.proofs.First.{passed-by-all}
 use Rattle.book.proofs.Trees.{both-so}
 use Rattle.constants.specs.Order.{Constant, Settled}
-use Rattle.constants.specs.Declared.{settled}
+use Rattle.constants.specs.OfBook.{settled}
 use Rattle.bodies.specs.Constant.{constantsIn, constantOf}
 use Rattle.types.specs.Step.{isStored}
 use Rattle.lower.specs.LowerBook.{lowerBook}

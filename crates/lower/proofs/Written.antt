@@ -15,7 +15,7 @@ use Rattle.book.specs.Outline.{Book, read}
 use Rattle.book.specs.Lists.{All, keep}
 use Rattle.book.proofs.Records.{records-within}
 use Rattle.book.proofs.Accepted.{accepted-is-readable}
-use Rattle.constants.specs.Declared.{settled}
+use Rattle.constants.specs.OfBook.{settled}
 use Rattle.constants.specs.Values.{IsI64}
 use Rattle.constants.proofs.Values.{settled-are-i64}
 use Rattle.constants.proofs.Named.{settled-named}

@@ -13,7 +13,7 @@ use Rattle.record.specs.Bytes.{AreBytes}
 use Rattle.arith.specs.Word.{signed}
 use Rattle.book.specs.Outline.{read}
 use Rattle.constants.specs.Order.{Constant, each, declares}
-use Rattle.constants.specs.Declared.{constants}
+use Rattle.constants.specs.OfBook.{constants}
 use Rattle.constants.specs.SameTrees.{SameExpression}
 use Rattle.constants.specs.Stored.{Stored}
 use Rattle.constants.specs.Leads.{LiesOnRing, LeadsIntoRing}

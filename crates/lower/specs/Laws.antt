@@ -15,7 +15,7 @@ use Rattle.book.specs.Lists.{keep, upTo}
 use Rattle.book.specs.Refusal.{Refusal, number}
 use Rattle.book.specs.First.{IsFirst, Holds, hasPlace}
 use Rattle.book.specs.Outline.{read}
-use Rattle.constants.specs.Declared.{settled}
+use Rattle.constants.specs.OfBook.{settled}
 use Rattle.types.specs.Lowering.{Stop, stopNumber}
 use Rattle.types.specs.Step.{isStored}
 use Rattle.types.specs.Events.{Event, events, written, told, StopsAt, Fits}

@@ -9,7 +9,7 @@ use Rattle.record.specs.Write.{roomFor, withRecords, cleared}
 use Rattle.book.specs.Refusal.{number, firstRefusal}
 use Rattle.book.specs.Outline.{Book, read}
 use Rattle.constants.specs.Order.{Settled}
-use Rattle.constants.specs.Declared.{settled}
+use Rattle.constants.specs.OfBook.{settled}
 use Rattle.types.specs.Lowering.{Lowering, Limits, Out, start, finished, stopped, stopNumber, run}
 use Rattle.types.specs.Resolved.{Names}
 use Rattle.types.specs.Step.{_>>_, forEach}

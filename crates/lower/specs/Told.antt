@@ -10,7 +10,7 @@ use Rattle.record.specs.Bytes.{AreBytes}
 use Rattle.book.specs.Outline.{read}
 use Rattle.constants.specs.Eval.{empty}
 use Rattle.constants.specs.Order.{each}
-use Rattle.constants.specs.Declared.{constants, settled}
+use Rattle.constants.specs.OfBook.{constants, settled}
 use Rattle.constants.specs.Theory.{Stores}
 use Rattle.bodies.specs.Constant.{constantsIn, constantOf}
 use Rattle.lower.specs.LowerBook.{accepted, lowerBook}

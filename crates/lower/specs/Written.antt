@@ -10,7 +10,7 @@ use Rattle.record.specs.Layout.{Within}
 use Rattle.book.specs.Lists.{All, keep}
 use Rattle.book.specs.Refusal.{firstRefusal}
 use Rattle.book.specs.Outline.{Book, read}
-use Rattle.constants.specs.Declared.{settled}
+use Rattle.constants.specs.OfBook.{settled}
 use Rattle.types.specs.Lowering.{Limits, State, start, finished, run}
 use Rattle.types.specs.Events.{Event, resolves, events, written}
 use Rattle.types.specs.Resolved.{Names}

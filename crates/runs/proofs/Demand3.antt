@@ -23,7 +23,7 @@ use Rattle.constants.specs.Expr.{int, mul, literal, reference, operation}
 use Rattle.constants.specs.Order.{Constant, each, declares, admits, Reached, reached}
 use Rattle.constants.specs.Stored.{Stored, stored}
 use Rattle.constants.specs.Leads.{LiesOnRing, LeadsIntoRing, names, further}
-use Rattle.constants.specs.Declared.{constants}
+use Rattle.constants.specs.OfBook.{constants}
 use Rattle.constants.specs.SameTrees.{SameExpression}
 use Rattle.constants.proofs.Distinct.{accepted-is-distinct}
 use Rattle.constants.proofs.SameTrees.{same-expressions-are-equal}

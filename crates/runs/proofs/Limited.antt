@@ -7,7 +7,7 @@ use mathlib.Core.Path.{_≡_, refl, ap, _∙_}
 use lib.ListN.{length}
 use Rattle.book.specs.Outline.{read}
 use Rattle.book.specs.Refusal.{Refusal, number, firstRefusal}
-use Rattle.constants.specs.Declared.{settled}
+use Rattle.constants.specs.OfBook.{settled}
 use Rattle.types.specs.Lowering.{Limits, start, run}
 use Rattle.bodies.specs.Constant.{storedCount}
 use Rattle.lower.specs.LowerBook.{Lowered, refused, lowerRecords, usedLimits, ended, lowerRead, lowerBook}

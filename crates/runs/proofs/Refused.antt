@@ -10,7 +10,7 @@ use Rattle.record.specs.Write.{cleared}
 use Rattle.book.specs.Lists.{All}
 use Rattle.book.specs.Outline.{read}
 use Rattle.book.specs.Refusal.{firstRefusal}
-use Rattle.constants.specs.Declared.{settled}
+use Rattle.constants.specs.OfBook.{settled}
 use Rattle.types.specs.Lowering.{Limits, Out, finished, stopped, stopNumber, start, run}
 use Rattle.bodies.specs.Constant.{storedCount}
 use Rattle.lower.specs.LowerBook.{Lowered, refused, lowerRecords, ended, lowerRead}

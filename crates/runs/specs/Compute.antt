@@ -20,7 +20,7 @@ use Rattle.book.specs.Outline.{read, numbersOf, notes, items}
 use Rattle.constants.specs.Expr.{exprOf, exprAt, refs}
 use Rattle.constants.specs.Eval.{store, literalValue, apply, applyTo, evalConstExpr}
 use Rattle.constants.specs.Order.{declaredRefs, repeats, admits, ready, orderFrom, order, settle, outcome}
-use Rattle.constants.specs.Declared.{constantAt, constants, settled}
+use Rattle.constants.specs.OfBook.{constantAt, constants, settled}
 use Rattle.types.specs.Lowering.{andThen, stopNumber, run}
 use Rattle.types.specs.Resolved.{entry, ownNumber, aliasOf, pairNumber, asNumber, lookup, withStub, withPair, withAlias}
 use Rattle.types.specs.Step.{forEach, emitType, whole, overOne, overTwo, poison}

@@ -15,7 +15,7 @@ use Rattle.book.specs.Outline.{Book, read}
 use Rattle.constants.specs.Eval.{empty}
 use Rattle.constants.specs.Order.{Constant, Settled, once, outcome}
 use Rattle.constants.specs.Leads.{LiesOnRing, LeadsIntoRing}
-use Rattle.constants.specs.Declared.{constants, settled}
+use Rattle.constants.specs.OfBook.{constants, settled}
 use Rattle.lower.specs.LowerBook.{Lowered, lowerRead, lowerBook}
 use Rattle.lower.specs.Laws.{IsAccepted}
 use Rattle.lower.specs.Demand3.{AnyLowering, Stands, StoredFor, DeclaresAllOf, AddsNoneTo, OfBoth, Demand3}

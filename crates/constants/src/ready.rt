@@ -1,0 +1,245 @@
+// The order of constants: always the earliest reached one whose declared references are done.
+
+ghost use mathlib.Core.Path.{_≡_};
+ghost use mathlib.Core.List.{List, []};
+ghost use mathlib.Core.Bool.{false};
+ghost use Prim.Native.Nat.{ℕ, _≤_, _<_};
+ghost use lib.ListN.{length, getD, set, replicate};
+ghost use Rattle.arith.specs.Checked.{answer};
+ghost use Rattle.book.specs.Blocks.{recordCount};
+ghost use Rattle.book.specs.Outline.{read};
+ghost use Rattle.book.specs.Trees.{Readable};
+ghost use Rattle.constants.specs.OfBook.{constantAt};
+ghost use Rattle.constants.specs.Values.{IsI64};
+ghost use Rattle.constants.specs.Tables.{declared, IsConstant, constantIn, Places, Undone, Waits, Standing, Told, Found};
+ghost use Rattle.constants.specs.Evaluated.{hasValue, valueOr0, knownThen, worthThen, Long, Settles, outcomeOver, Evaluated};
+use crate::NAMES;
+use crate::RECORDS;
+use crate::expr;
+use crate::expr::Name;
+use arith::Checked;
+
+// Places for names that are undone, and one each for a name that always is and for one that never is.
+pub const SLOTS: usize = 4098;
+
+const NEVER: u16 = 4096;
+
+const AT_ONCE: u16 = 4097;
+
+// Lists the constants of a book by their record numbers, and opens their names. How many there are.
+pub(crate) fn declare_constants(
+    book: &[u8],
+    count: u16,
+    places: &mut [u16; RECORDS],
+    undone: &mut [bool; SLOTS],
+) -> u16
+    requires { ⌜ Readable (now book) × (count ≡ recordCount (now book)) ⌝ }
+    requires { ⌜ (length (now places) ≡ 1344) × (now undone ≡ replicate 4098 false) ⌝ }
+    ensures { λ r. ⌜ Places (read (now (book .entry))) r (now (places .exit)) × Undone (declared (now (book .entry))) [] (now (undone .exit)) ⌝ }
+{
+    let never = NEVER as usize;
+    undone[never] = true;
+    let mut m: u16 = 0;
+    let mut n: u16 = 0;
+    while n < count {
+        let r = record::record_at(book, n);
+        if r.kind == 24 {
+            let at = m as usize;
+            let name = r.a as usize;
+            places[at] = n;
+            undone[name] = true;
+            m += 1;
+        }
+        n += 1;
+    }
+    m
+}
+
+// What each constant waits for at first: one that names a declared constant twice for what never comes, the others for
+// nothing.
+pub(crate) fn admit_constants(
+    book: &[u8],
+    m: u16,
+    places: &[u16; RECORDS],
+    undone: &[bool; SLOTS],
+    waits: &mut [u16; RECORDS],
+)
+    requires { ⌜ Readable (now book) × Places (read (now book)) m (now places) ⌝ }
+    requires { ⌜ Undone (declared (now book)) [] (now undone) × (length (now waits) ≡ 1344) ⌝ }
+    ensures { λ _. ⌜ Waits (declared (now (book .entry))) [] (now (waits .exit)) ⌝ }
+{
+    let mut seen = [0u16; NAMES];
+    let mut i: u16 = 0;
+    while i < m {
+        let at = i as usize;
+        let r = record::record_at(book, places[at]);
+        let twice = expr::names_twice(book, r.c, i + 1, undone, &mut seen);
+        if twice {
+            waits[at] = NEVER;
+        } else {
+            waits[at] = AT_ONCE;
+        }
+        i += 1;
+    }
+}
+
+// Whether constant i, at record p, is ready. If not, it waits for an undone name.
+fn is_ready(book: &[u8], i: u16, p: u16, undone: &[bool; SLOTS], waits: &mut [u16; RECORDS]) -> bool
+    requires { ⌜ Readable (now book) × (i < length (declared (now book))) × (p ≡ constantIn (declared (now book)) i .place) ⌝ }
+    requires { ⌜ Standing (declared (now book)) (now undone) (now waits) ⌝ }
+    ensures { λ r. ⌜ ((done : List ℕ) → Undone (declared (now (book .entry))) done (now (undone .entry)) →
+        Waits (declared (now (book .entry))) done (now (waits .entry)) →
+        Told (declared (now (book .entry))) done i r (now (waits .exit))) ⌝ }
+{
+    let at = i as usize;
+    let w = waits[at] as usize;
+    if undone[w] {
+        return false;
+    }
+    let r = record::record_at(book, p);
+    match expr::first_undone(book, r.c, undone) {
+        Name::Nothing => true,
+        Name::Is(name) => {
+            waits[at] = name;
+            false
+        }
+    }
+}
+
+// The earliest ready constant of m, from `low` on, by its number; m where there is none.
+fn first_ready(
+    book: &[u8],
+    low: u16,
+    m: u16,
+    places: &[u16; RECORDS],
+    undone: &[bool; SLOTS],
+    waits: &mut [u16; RECORDS],
+) -> u16
+    requires { ⌜ Readable (now book) × Places (read (now book)) m (now places) × (low ≤ m) ⌝ }
+    requires { ⌜ Standing (declared (now book)) (now undone) (now waits) ⌝ }
+    ensures { λ r. ⌜ ((done : List ℕ) → Undone (declared (now (book .entry))) done (now (undone .entry)) →
+        Waits (declared (now (book .entry))) done (now (waits .entry)) →
+        Found (declared (now (book .entry))) done low r (now (waits .exit))) ⌝ }
+{
+    let mut i = low;
+    while i < m {
+        let at = i as usize;
+        if is_ready(book, i, places[at], undone, waits) {
+            return i;
+        }
+        i += 1;
+    }
+    m
+}
+
+// Puts down a value or none: as number k of the order, and under a name if it is there.
+fn put_value(
+    value: Checked,
+    name: u16,
+    k: u16,
+    known: &mut [bool; NAMES],
+    worth: &mut [u64; NAMES],
+    stored: &mut [bool; RECORDS],
+    values: &mut [u64; RECORDS],
+)
+    requires { ⌜ (name < 4096) × (k < 1344) ⌝ }
+    ensures { λ _. ⌜ now (known .exit) ≡ knownThen name (answer value) (now (known .entry)) ⌝ }
+    ensures { λ _. ⌜ now (worth .exit) ≡ worthThen name (answer value) (now (worth .entry)) ⌝ }
+    ensures { λ _. ⌜ now (stored .exit) ≡ set (now (stored .entry)) k (hasValue (answer value)) ⌝ }
+    ensures { λ _. ⌜ now (values .exit) ≡ set (now (values .entry)) k (valueOr0 (answer value)) ⌝ }
+    ensures { λ _. ⌜ IsI64 (answer value) ⌝ }
+{
+    let n = name as usize;
+    let at = k as usize;
+    match value {
+        Checked::Value(v) => {
+            known[n] = true;
+            worth[n] = v;
+            stored[at] = true;
+            values[at] = v;
+        }
+        Checked::None => {
+            stored[at] = false;
+            values[at] = 0;
+        }
+    }
+}
+
+// Settles constant i, at record p, as number k of the order.
+fn settle(
+    book: &[u8],
+    p: u16,
+    i: u16,
+    k: u16,
+    undone: &mut [bool; SLOTS],
+    waits: &mut [u16; RECORDS],
+    known: &mut [bool; NAMES],
+    worth: &mut [u64; NAMES],
+    order: &mut [u16; RECORDS],
+    stored: &mut [bool; RECORDS],
+    values: &mut [u64; RECORDS],
+)
+    requires { ⌜ IsConstant (now book) p × (i < 1344) × (k < 1344) ⌝ }
+    ensures { λ _. ⌜ Settles (constantAt (read (now (book .entry))) p) i k (now (undone .entry)) (now (undone .exit))
+        (now (waits .entry)) (now (waits .exit)) (now (known .entry)) (now (known .exit)) (now (worth .entry)) (now (worth .exit))
+        (now (order .entry)) (now (order .exit)) (now (stored .entry)) (now (stored .exit)) (now (values .entry)) (now (values .exit)) ⌝ }
+{
+    let r = record::record_at(book, p);
+    let value = expr::eval_const_expr(book, r.c, known, worth);
+    put_value(value, r.a, k, known, worth, stored, values);
+    let name = r.a as usize;
+    let at = i as usize;
+    let here = k as usize;
+    undone[name] = false;
+    waits[at] = NEVER;
+    order[here] = p;
+}
+
+// Settles the constants, the earliest ready one first. How many come to it.
+pub(crate) fn settle_constants(
+    book: &[u8],
+    m: u16,
+    places: &[u16; RECORDS],
+    undone: &mut [bool; SLOTS],
+    waits: &mut [u16; RECORDS],
+    known: &mut [bool; NAMES],
+    worth: &mut [u64; NAMES],
+    order: &mut [u16; RECORDS],
+    stored: &mut [bool; RECORDS],
+    values: &mut [u64; RECORDS],
+) -> u16
+    requires { ⌜ Readable (now book) × Places (read (now book)) m (now places) ⌝ }
+    requires { ⌜ Undone (declared (now book)) [] (now undone) × Waits (declared (now book)) [] (now waits) ⌝ }
+    requires { ⌜ Long (now known) (now worth) (now order) (now stored) (now values) ⌝ }
+    ensures { λ r. ⌜ Evaluated (outcomeOver (now (book .entry)) (now (known .entry)) (now (worth .entry))) r
+        (now (known .entry)) (now (known .exit)) (now (worth .entry)) (now (worth .exit)) (now (order .entry)) (now (order .exit))
+        (now (stored .entry)) (now (stored .exit)) (now (values .entry)) (now (values .exit)) ⌝ }
+{
+    let mut k: u16 = 0;
+    let mut low: u16 = 0;
+    while k < m {
+        let i = first_ready(book, low, m, places, undone, waits);
+        if i == m {
+            return k;
+        }
+        let at = i as usize;
+        settle(
+            book,
+            places[at],
+            i,
+            k,
+            undone,
+            waits,
+            known,
+            worth,
+            order,
+            stored,
+            values,
+        );
+        if i == low {
+            low = i + 1;
+        }
+        k += 1;
+    }
+    k
+}
