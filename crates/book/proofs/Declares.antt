@@ -1,23 +1,25 @@
 -- Which names are declared.
 -- Assumes nothing.
 use Prim.Native.Nat.{ℕ, suc, _+_, _*_, _≤_, _<_}
-use mathlib.Core.Bool.{Bool, true, false, cond, _&&_, _||_, false≢true, or-true, or-false}
-use mathlib.Core.List.{List, [], _∷_, _++_}
+use mathlib.Core.Bool.{Bool, true, false, cond, _&&_, _||_, false≢true, true≢false, or-true, or-false}
+use mathlib.Core.List.{List, List·Memᴰ}
 use mathlib.Core.Path.{_≡_, refl, sym, ap, _∙_}
 use native.Mathlib.Decide.{ℕ-discrete}
 use native.Mathlib.Omega.{arith}
 use lib.Dec.{leb, eqb, eqb·zero-suc, eqb·suc-zero}
 use lib.ListN.{length, take, set, getD, replicate, length-set, length-replicate, getD-replicate}
-use lib.Seq.{take-suc, getD-set-same, getD-set-other}
+use lib.Seq.{getD-set-same, getD-set-other}
 use borrow.Author.Tests.{ltb-true, leb-true, eqb-true, le-leb, eq-eqb, ne-eqb}
 use Rattle.record.specs.declared.Record.{Record}
 use Rattle.book.specs.Lists.{All, any, keep}
 use Rattle.book.specs.Shape.{table, name, allows, wellShaped}
 use Rattle.book.specs.Faults.{recordOf, nameSet, nameFault}
 use Rattle.book.specs.Tables.{Names}
-use Rattle.book.proofs.Lists.{any-more, either}
-use Rattle.book.proofs.Members.{keep-mem, of-all}
+use Rattle.book.specs.Trees.{WellFormed}
+use Rattle.book.proofs.Lists.{either}
+use Rattle.book.proofs.Members.{keep-mem, mem-any, of-all, at-mem-take}
 use Rattle.book.proofs.Trees.{both-so, not-so, shaped-row}
+use Rattle.book.proofs.Listed.{any-next}
 
 -- the kind is that of a declaration
 abbrev declares : ℕ → Bool
@@ -97,13 +99,10 @@ module _
       {marked : List Bool} → length marked ≡ length names →
       ((s k : ℕ) → k < 4096 → getD marked (4096 * s + k) false ≡ getD names (4096 * s + k) false || names-it s k r) →
       Names rs (suc n) marked
-  unfolding recordOf
   next {marked} same-length also = record { long = same-length ∙ known .long; marks = marks }
     where
       more : (test : Record → Bool) → any test (take (suc n) rs) ≡ any test (take n rs) || test r
-      more test =
-          let all : take (suc n) rs ≡ take n rs ++ (recordOf rs n ∷ []) = take-suc rs n _ less in
-          ap (any test) all ∙ any-more test (take n rs) (recordOf rs n) ∙ ap (λ x. any test (take n rs) || test x) (sym is)
+      more test = any-next test rs n less ∙ ap (λ x. any test (take n rs) || test x) (sym is)
 
       marks : (s k : ℕ) → s < 3 → k < 4096 → getD marked (4096 * s + k) false ≡ any (names-it s k) (take (suc n) rs)
       marks s k low high =
@@ -145,3 +144,29 @@ module _
               let (set-is, name-is) = both-so (eqb (nameSet r) (suc t)) (eqb (r .a) k) b in
               other (omega (arith, eqb-true (nameSet r) (suc t) set-is, eqb-true (r .a) k name-is))) in
               rw (getD-set-other names at (4096 * t + k) true false other, not-it) (sym (or-false (getD names (4096 * t + k) false)))
+
+-- record j stands among those before k
+there-before : (rs : List Record) (j k : ℕ) → j < length rs → j < k → List·Memᴰ (recordOf rs j) (take k rs)
+unfolding recordOf
+there-before rs j k less first = at-mem-take rs j k _ less first
+
+-- a name is declared once: of two records that declare it in one set, the later one has a fault
+declared-again :
+    (rs : List Record) (j k : ℕ) → j < length rs → j < k → 0 < nameSet (recordOf rs k) →
+    nameSet (recordOf rs j) ≡ nameSet (recordOf rs k) → recordOf rs j .a ≡ recordOf rs k .a → nameFault rs k ≡ true
+unfolding nameFault
+declared-again rs j k less first declares same-set same-name =
+    rw (ne-eqb (nameSet (recordOf rs k)) 0 (λ e. omega arith), nameFault)
+    (mem-any _ (there-before rs j k less first) (rw (eq-eqb _ _ same-set, eq-eqb _ _ same-name) refl))
+
+-- so they are one record, if the records are well-formed
+pub declared-once :
+    (rs : List Record) → WellFormed rs → (j k : ℕ) → j < length rs → k < length rs → 0 < nameSet (recordOf rs k) →
+    nameSet (recordOf rs j) ≡ nameSet (recordOf rs k) → recordOf rs j .a ≡ recordOf rs k .a → j ≡ k
+declared-once rs sound j k less less′ declares same-set same-name =
+    let up : ¬ (j < k) =
+    λ first. true≢false (sym (declared-again rs j k less first declares same-set same-name) ∙ sound k less′ .new-name) in
+    let down : ¬ (k < j) =
+    λ first.
+    true≢false (sym (declared-again rs k j less′ first (omega arith) (sym same-set) (sym same-name)) ∙ sound j less .new-name) in
+    omega arith

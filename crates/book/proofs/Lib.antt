@@ -9,6 +9,7 @@ pub mod Cells
 pub mod Filled
 pub mod Places
 pub mod Marks
+pub mod Listed
 pub mod Declares
 pub mod Levels
 pub mod Looks

@@ -27,7 +27,7 @@ unfolding from
 from-last n zero = ap (λ k. k ∷ []) (omega arith)
 from-last n (suc m) = ap (λ l. n ∷ l) (from-last (suc n) m ∙ ap (λ k. from (suc n) m ++ (k ∷ [])) (omega arith))
 
-up-to-last : (n : ℕ) → upTo (suc n) ≡ upTo n ++ (n ∷ [])
+pub up-to-last : (n : ℕ) → upTo (suc n) ≡ upTo n ++ (n ∷ [])
 up-to-last n = from-last 0 n ∙ ap (λ k. upTo n ++ (k ∷ [])) (omega arith)
 
 -- used before the record behind n: before n, or by n

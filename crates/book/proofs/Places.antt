@@ -23,7 +23,7 @@ use Rattle.book.proofs.Members.{keep-mem, any-mem, of-all}
 use Rattle.book.proofs.Trees.{not-so, both-so, none-passes, shaped-row, withKind}
 
 -- the records that the follow rule looks at: none before the first, and one more at most behind each
-keep-append : {A : Type 0} (test : A → Bool) (l r : List A) → keep test (l ++ r) ≡ keep test l ++ keep test r
+pub keep-append : {A : Type 0} (test : A → Bool) (l r : List A) → keep test (l ++ r) ≡ keep test l ++ keep test r
 unfolding keep
 keep-append test [] r = refl
 keep-append {A} test (x ∷ l) r = go (test x) (keep-append test l r)
@@ -56,7 +56,7 @@ before-next rs n less =
     last false = refl
 
 -- a number that is one of some
-one-of : (P : ℕ → Type 0) (l : List ℕ) (k : ℕ) → isOneOf l k ≡ true → All P l → P k
+pub one-of : (P : ℕ → Type 0) (l : List ℕ) (k : ℕ) → isOneOf l k ≡ true → All P l → P k
 one-of P l k e p = let (x, m, t) = any-mem (eqb k) l e in subst P (sym (eqb-true k x t)) (of-all P l p x m)
 
 -- a proof for the first of a list, and proofs for the rest

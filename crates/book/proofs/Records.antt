@@ -32,7 +32,7 @@ unfolding records
 records-length book = length-map (upTo (recordCount book)) (recordAt book) ∙ from-length 0 (recordCount book)
 
 -- element n of the results is the result of element n
-at-map : {A B : Type 0} (f : A → B) (l : List A) (n : ℕ) (d : A) (e : B) → n < length l → getD (map f l) n e ≡ f (getD l n d)
+pub at-map : {A B : Type 0} (f : A → B) (l : List A) (n : ℕ) (d : A) (e : B) → n < length l → getD (map f l) n e ≡ f (getD l n d)
 at-map f [] n d e less = absurd (omega arith)
 at-map f (x ∷ l) zero d e less = refl
 at-map f (x ∷ l) (suc n) d e less = at-map f l n d e (omega arith)

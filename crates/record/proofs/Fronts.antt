@@ -37,6 +37,11 @@ same-length n front l e h =
     let b = length-drop n l in
     omega arith
 
+-- nor do records, and as many have room as before
+pub room-same : (most : ℕ) (rs : List Record) (l : List ℕ) → length rs ≤ roomFor most l → roomFor most (withRecords rs l) ≡ roomFor most l
+unfolding withRecords
+room-same most rs l h = rw (same-length (24 * length rs) (flatMap encodeRecord rs) l (encoded-length rs) (omega arith))
+
 pub put-adds-one : PutAddsOne
 unfolding put withRecords
 put-adds-one most l rs r h =

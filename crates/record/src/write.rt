@@ -2,9 +2,14 @@
 
 ghost use mathlib.Core.Path.{_≡_};
 ghost use lib.Dec.{ltb};
+ghost use lib.ListN.{drop};
+ghost use Prim.Native.Nat.{_*_};
+ghost use Rattle.record.specs.Layout.{decodeRecord};
 ghost use Rattle.record.specs.Write.{roomFor, put};
 use crate::RECORD_BYTES;
 use crate::Record;
+use crate::bytes;
+use crate::decode;
 use crate::encode;
 
 // The number of records that may be written to dst: `most`, or as many as it holds whole.
@@ -36,4 +41,11 @@ pub fn put_record(dst: &mut [u8], most: u16, n: u16, r: Record) -> bool
         i += 1;
     }
     true
+}
+
+// Record n of those that were written to s. A byte past the end of the slice counts as 0.
+pub fn written_at(s: &[u8], n: u16) -> Record
+    ensures { λ r. ⌜ r ≡ decodeRecord (drop (24 * n) (now (s .entry))) ⌝ }
+{
+    decode(bytes::from(s, RECORD_BYTES * (n as usize)))
 }

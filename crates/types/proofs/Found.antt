@@ -28,7 +28,7 @@ if-only : {A : Type 0} (P : A → Type 0) (b : Bool) (o : Option A) → If P o �
 if-only P true o h = h
 if-only P false o h = tt
 
-if-entry : {A : Type 0} (P : A → Type 0) (n : ℕ) (l : List (ℕ × A)) → All (λ x. P (x .1)) l → If P (entry n l)
+pub if-entry : {A : Type 0} (P : A → Type 0) (n : ℕ) (l : List (ℕ × A)) → All (λ x. P (x .1)) l → If P (entry n l)
 unfolding entry
 if-entry P n l h = if-map P (λ x. x .1) (find (λ x. eqb (x .0) n) l) (if-find (λ x. P (x .1)) (λ x. eqb (x .0) n) l h)
 

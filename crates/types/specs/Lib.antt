@@ -5,3 +5,8 @@ pub mod Step
 pub mod Numbers
 pub mod Resolve
 pub mod Alias
+pub mod Records
+pub mod Standing
+pub mod Finds
+pub mod Steps
+pub mod Registered

@@ -1,0 +1,129 @@
+-- `types::register::register_declarations` meets its contract. The loop's invariant: the generic aliases before record n are numbered behind the
+-- messages, unions and newtypes, and listed.
+-- Assumes nothing.
+use Prim.Native.Nat.{_-_, _≤_, _<_}
+use mathlib.Core.Logic.{⊎-elim}
+use mathlib.Core.Path.{sym, ap, _∙_}
+use native.Mathlib.Omega.{arith}
+use denote.Ref.{now}
+use borrow.Author.Needs.{needs}
+use Rattle.book.specs.Blocks.{recordCount}
+use Rattle.book.specs.Trees.{Readable}
+use Rattle.types.specs.Registered.{parameterOf}
+use Rattle.types.proofs.Registering.{Registering, registering-start, registering-end, next-from, types-few, next-small}
+use Rattle.types.proofs.Registering.{is-alias-at, alias-name, registering-other, registering-plain, registering-generic}
+use Rattle.types.proofs.register.register_declarations.Statement.{statement}
+use Rattle.types.proofs.register.register_declarations.Tie as tie
+
+abbrev Inv-loop : tie.InvT-loop
+Inv-loop book count imports ambiguous generics₀ numbers₀ types next₀ n₀ generics numbers next n =
+    Registering book n next types generics₀ generics numbers
+
+abbrev μ-loop : tie.MeasureT-loop
+μ-loop book count imports ambiguous generics₀ numbers₀ types next₀ n₀ generics numbers next n = count - n
+
+loop-holds : tie.Need-loop-holds Inv-loop μ-loop
+loop-holds c =
+    let s = c .before .before .before .before in
+    registering-start (s .pre .0 .0) (c .register-types .ensures) (s .pre .1 .2)
+
+-- what is known of the numbers in a turn of the loop
+module _ (c : tie.In-loop Inv-loop μ-loop) where
+  readable : Readable (now (c .before .before .before .before .before .before .args .book))
+  readable = c .before .before .before .before .before .before .pre .0 .0
+
+  less : c .before .loop .n < recordCount (now (c .before .before .before .before .before .before .args .book))
+  less = omega arith
+
+  from-types : c .before .before .register-types .result ≤ c .before .loop .next
+  from-types = next-from readable (c .before .loop .inv)
+
+  few : c .before .before .register-types .result ≤ 1344
+  few = types-few readable (c .before .loop .inv)
+
+  small : c .before .loop .next - c .before .before .register-types .result < 1344
+  small = next-small readable (c .before .loop .inv) less
+
+parameter-of-requires : tie.Need-parameter-of-requires Inv-loop μ-loop
+parameter-of-requires c κs =
+    let p = c .before .before in
+    let l = p .before .before in (
+      is-alias-at (readable (p .before)) (l .loop .inv) (less (p .before)) (p .record-at .ensures) (c .if1 .taken),
+      l .before .before .before .before .before .pre .0 .1,
+    )
+
+sub-at : tie.Need-sub-at Inv-loop μ-loop
+sub-at c = from-types (c .before .before .before .before .before .before .before)
+
+cast-at : tie.Need-cast-at Inv-loop μ-loop
+cast-at c = omega (arith, small (c .before .before .before .before .before .before .before))
+
+mul-generics-2 : tie.Need-mul-generics-2 Inv-loop μ-loop
+mul-generics-2 c = omega (arith, small (c .before .before .before .before .before .before .before .before .before))
+
+element-write-generics : tie.Need-element-write-generics Inv-loop μ-loop
+element-write-generics c = small (c .before .before .before .before .before .before .before .before .before)
+
+element-write-numbers : tie.Need-element-write-numbers Inv-loop μ-loop
+element-write-numbers c =
+    let f = c .before .before .before .before .before .before in
+    let p = f .before .before in
+    let t = p .before in
+    alias-name (readable t) (t .before .loop .inv) (less t) (p .record-at .ensures) (f .if1 .taken)
+
+add-next : tie.Need-add-next Inv-loop μ-loop
+add-next c =
+    let t = c .before .before .before .before .before .before .before .before .before in
+    omega (arith, small t, few t)
+
+loop-again : tie.Need-loop-again Inv-loop μ-loop
+loop-again c =
+    let p = c .before .before in
+    let t = p .before in
+    let inv = t .before .loop .inv in
+    let at = p .record-at .ensures in
+    ⊎-elim
+    (λ w.
+    let parameter = ap parameterOf (sym (w .3 .given .1)) ∙ w .1 .ensures in
+    rw (w .7, w .8, w .9) (registering-generic (readable t) inv (less t) at (w .0 .taken) (w .3 .given .0 .0) parameter))
+    (⊎-elim
+    (λ w.
+    let nothing = ap parameterOf (sym (w .3 .given .1)) ∙ w .1 .ensures in
+    rw (w .4, w .5, w .6) (registering-plain (readable t) inv (less t) at (w .0 .taken) nothing))
+    (λ w. rw (w .1, w .2, w .3) (registering-other (readable t) inv (less t) at (w .0 .left))))
+    (c .if1 .came)
+
+returns : tie.Need-returns Inv-loop μ-loop
+returns c =
+    let l = c .before in
+    let s = l .before .before .before .before .before in
+    registering-end (s .pre .0 .0) (l .loop .inv) (l .before .register-types .ensures .ambiguous-are) (s .pre .0 .2) (omega arith)
+
+pub register-declarations-spec : {M : Type 1} → statement M
+register-declarations-spec =
+    tie.close
+    (tie.spec
+    Inv-loop
+    μ-loop
+    (λ c κs. search needs)
+    loop-holds
+    (λ c κs. search needs)
+    parameter-of-requires
+    (λ c. search needs)
+    sub-at
+    cast-at
+    (λ c. search needs)
+    (λ c. search needs)
+    (λ c. search needs)
+    (λ c. search needs)
+    (λ c. search needs)
+    mul-generics-2
+    element-write-generics
+    (λ c. search needs)
+    element-write-numbers
+    add-next
+    (λ c. search needs)
+    (λ c. search needs)
+    (λ c. search needs)
+    loop-again
+    returns)

@@ -1,0 +1,109 @@
+// Numbers of declarations: messages, unions and newtypes first, then generic aliases.
+
+ghost use mathlib.Core.Path.{_≡_};
+ghost use mathlib.Core.Bool.{false};
+ghost use Prim.Native.Nat.{_<_};
+ghost use lib.ListN.{length, replicate};
+ghost use Rattle.book.specs.Lists.{at};
+ghost use Rattle.book.specs.Blocks.{recordCount, wildcards};
+ghost use Rattle.book.specs.Outline.{read};
+ghost use Rattle.book.specs.Trees.{Readable};
+ghost use Rattle.types.specs.Resolved.{POISON};
+ghost use Rattle.types.specs.Numbers.{parameters};
+ghost use Rattle.types.specs.Registered.{parameterOf, IsAlias, Typed, Registered};
+use crate::NAMES;
+use crate::RECORDS;
+use crate::Scope;
+
+// The name of a type parameter, if there is one.
+pub enum Parameter {
+    Nothing,
+    Is(u16),
+}
+
+// The first type parameter of the alias at record n: it stands behind the alias, with nothing but types between.
+pub(crate) fn parameter_of(book: &[u8], count: u16, n: u16) -> Parameter
+    requires { ⌜ IsAlias (now book) n × (count ≡ recordCount (now book)) ⌝ }
+    ensures { λ r. ⌜ parameterOf r ≡ at (parameters (read (now (book .entry))) n) 0 ⌝ }
+{
+    let mut m = n + 1;
+    while m < count {
+        let r = record::record_at(book, m);
+        if r.kind == 30 {
+            return Parameter::Is(r.a);
+        }
+        if 16 < r.kind {
+            return Parameter::Nothing;
+        }
+        m += 1;
+    }
+    Parameter::Nothing
+}
+
+// Numbers messages, unions and newtypes from 0, and marks the names that are ambiguous. How many numbers there are.
+fn register_types(
+    book: &[u8],
+    count: u16,
+    ambiguous: &mut [bool; NAMES],
+    numbers: &mut [u32; NAMES],
+) -> u32
+    requires { ⌜ Readable (now book) × (count ≡ recordCount (now book)) ⌝ }
+    requires { ⌜ (now ambiguous ≡ replicate 4096 false) × (now numbers ≡ replicate 4096 POISON) ⌝ }
+    ensures { λ r. ⌜ Typed (now (book .entry)) r (now (ambiguous .exit)) (now (numbers .exit)) ⌝ }
+{
+    let mut next: u32 = 0;
+    let mut n: u16 = 0;
+    while n < count {
+        let r = record::record_at(book, n);
+        let name = r.a as usize;
+        let kind = r.kind;
+        match kind {
+            20..=22 => {
+                numbers[name] = next;
+                next += 1;
+            }
+            25 => {
+                ambiguous[name] = true;
+            }
+            _ => {}
+        }
+        n += 1;
+    }
+    next
+}
+
+// Numbers the declarations of a book. What is the same for the whole book.
+pub fn register_declarations(
+    book: &[u8],
+    count: u16,
+    imports: bool,
+    ambiguous: &mut [bool; NAMES],
+    generics: &mut [u32; RECORDS],
+    numbers: &mut [u32; NAMES],
+) -> Scope
+    requires { ⌜ Readable (now book) × (count ≡ recordCount (now book)) × (imports ≡ wildcards (now book)) ⌝ }
+    requires { ⌜ (now ambiguous ≡ replicate 4096 false) × (now numbers ≡ replicate 4096 POISON) × (length (now generics) ≡ 1344) ⌝ }
+    ensures { λ r. ⌜ Registered (now (book .entry)) r (now (ambiguous .exit)) (now (generics .entry)) (now (generics .exit)) (now (numbers .exit)) ⌝ }
+{
+    let types = register_types(book, count, ambiguous, numbers);
+    let mut next = types;
+    let mut n: u16 = 0;
+    while n < count {
+        let r = record::record_at(book, n);
+        if r.kind == 23 {
+            if let Parameter::Is(parameter) = parameter_of(book, count, n) {
+                let at = (next - types) as usize;
+                let name = r.a as usize;
+                generics[at] = 0x1_0000 * (parameter as u32) + r.b as u32;
+                numbers[name] = next;
+                next += 1;
+            }
+        }
+        n += 1;
+    }
+    Scope {
+        types,
+        named: next,
+        wildcards: imports,
+    }
+}

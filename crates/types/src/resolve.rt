@@ -1,0 +1,297 @@
+// The two resolvers, over type records. The remaining depth falls at every call.
+
+ghost use mathlib.Core.Path.{_≡_};
+ghost use Rattle.record.specs.Layout.{recordAt};
+ghost use Rattle.book.specs.Outline.{read};
+ghost use Rattle.types.specs.Resolve.{resolveTypeExpr, resolveTypeExprWithSubstitution};
+ghost use Rattle.types.specs.Standing.{held, Reads, Stands, Resolves};
+ghost use Rattle.types.specs.Steps.{IsType, substitution};
+use crate::LowerCtx;
+use crate::NAMES;
+use crate::RECORDS;
+use crate::RESULTS;
+use crate::Resolved;
+use crate::Scope;
+use crate::Stop;
+use crate::find;
+use crate::find::Head;
+use crate::leaf;
+use crate::write;
+use record::Span;
+
+// The span of a record.
+fn span_at(book: &[u8], n: u16) -> Span
+    ensures { λ r. ⌜ r ≡ recordAt (now (book .entry)) n .span ⌝ }
+{
+    let r = record::record_at(book, n);
+    r.span
+}
+
+// The type at record n, with the span that it has where it stands.
+pub(crate) fn resolve_type_expr(
+    left: u8,
+    book: &[u8],
+    n: u16,
+    span: Span,
+    scope: Scope,
+    ctx: LowerCtx,
+    ambiguous: &[bool; NAMES],
+    aliases: &[u32; NAMES],
+    generics: &[u32; RECORDS],
+    numbers: &mut [u32; NAMES],
+    pairs: &mut [u32; RESULTS],
+    results: &mut [u8],
+    diagnostics: &mut [u8],
+) -> Resolved
+    requires { ⌜ IsType (now book) n × Reads (now book) scope (now ambiguous) (now generics) ⌝ }
+    requires { ⌜ Stands (now book) scope (now aliases) ctx (held (now numbers) (now pairs) (now results) (now diagnostics)) ⌝ }
+    ensures { λ r. ⌜ Resolves (now (book .entry)) scope (now (aliases .entry)) ctx
+        (held (now (numbers .entry)) (now (pairs .entry)) (now (results .entry)) (now (diagnostics .entry)))
+        (resolveTypeExpr left (read (now (book .entry))) n span) r
+        (held (now (numbers .exit)) (now (pairs .exit)) (now (results .exit)) (now (diagnostics .exit))) ⌝ }
+{
+    if left == 0 {
+        return Resolved::Stopped(Stop::TooDeep);
+    }
+    let r = record::record_at(book, n);
+    let kind = r.kind;
+    match kind {
+        6 => {
+            let head = find::find_head(r.a, scope, aliases, generics, numbers, results);
+            match head {
+                Head::Alias { parameter, target } => resolve_type_expr_with_substitution(
+                    left - 1,
+                    book,
+                    parameter,
+                    r.b,
+                    target,
+                    span,
+                    scope,
+                    ctx,
+                    ambiguous,
+                    aliases,
+                    generics,
+                    numbers,
+                    pairs,
+                    results,
+                    diagnostics,
+                ),
+                Head::NoAlias => write::poison(3, r.a, 0, 1, span, ctx, results, diagnostics),
+                Head::NoNumber => write::poison(4, r.a, 0, 0, span, ctx, results, diagnostics),
+            }
+        }
+        7 => {
+            let child = resolve_type_expr(
+                left - 1,
+                book,
+                r.a,
+                span_at(book, r.a),
+                scope,
+                ctx,
+                ambiguous,
+                aliases,
+                generics,
+                numbers,
+                pairs,
+                results,
+                diagnostics,
+            );
+            leaf::over_one(r.sub, r.v, child, results)
+        }
+        8 => {
+            let one = resolve_type_expr(
+                left - 1,
+                book,
+                r.a,
+                span_at(book, r.a),
+                scope,
+                ctx,
+                ambiguous,
+                aliases,
+                generics,
+                numbers,
+                pairs,
+                results,
+                diagnostics,
+            );
+            let Resolved::Root(root, behind) = one else {
+                return one;
+            };
+            let other = resolve_type_expr(
+                left - 1,
+                book,
+                r.b,
+                span_at(book, r.b),
+                scope,
+                behind,
+                ambiguous,
+                aliases,
+                generics,
+                numbers,
+                pairs,
+                results,
+                diagnostics,
+            );
+            leaf::over_two(r.sub, root, other, results)
+        }
+        _ => leaf::resolve_leaf(
+            r,
+            span,
+            scope,
+            ctx,
+            ambiguous,
+            aliases,
+            numbers,
+            pairs,
+            results,
+            diagnostics,
+        ),
+    }
+}
+
+// The same inside the target of a generic: `argument` stands for the parameter.
+fn resolve_type_expr_with_substitution(
+    left: u8,
+    book: &[u8],
+    parameter: u16,
+    argument: u16,
+    n: u16,
+    span: Span,
+    scope: Scope,
+    ctx: LowerCtx,
+    ambiguous: &[bool; NAMES],
+    aliases: &[u32; NAMES],
+    generics: &[u32; RECORDS],
+    numbers: &mut [u32; NAMES],
+    pairs: &mut [u32; RESULTS],
+    results: &mut [u8],
+    diagnostics: &mut [u8],
+) -> Resolved
+    requires { ⌜ IsType (now book) n × IsType (now book) argument × Reads (now book) scope (now ambiguous) (now generics) ⌝ }
+    requires { ⌜ Stands (now book) scope (now aliases) ctx (held (now numbers) (now pairs) (now results) (now diagnostics)) ⌝ }
+    ensures { λ r. ⌜ Resolves (now (book .entry)) scope (now (aliases .entry)) ctx
+        (held (now (numbers .entry)) (now (pairs .entry)) (now (results .entry)) (now (diagnostics .entry)))
+        (resolveTypeExprWithSubstitution left (read (now (book .entry))) (substitution parameter argument) n span) r
+        (held (now (numbers .exit)) (now (pairs .exit)) (now (results .exit)) (now (diagnostics .exit))) ⌝ }
+{
+    if left == 0 {
+        return Resolved::Stopped(Stop::TooDeep);
+    }
+    let r = record::record_at(book, n);
+    let kind = r.kind;
+    if (kind == 4) & (r.a == parameter) {
+        return resolve_type_expr(
+            left - 1,
+            book,
+            argument,
+            span,
+            scope,
+            ctx,
+            ambiguous,
+            aliases,
+            generics,
+            numbers,
+            pairs,
+            results,
+            diagnostics,
+        );
+    }
+    match kind {
+        6 => {
+            let head = find::find_head(r.a, scope, aliases, generics, numbers, results);
+            match head {
+                Head::Alias { parameter, target } => resolve_type_expr_with_substitution(
+                    left - 1,
+                    book,
+                    parameter,
+                    r.b,
+                    target,
+                    span,
+                    scope,
+                    ctx,
+                    ambiguous,
+                    aliases,
+                    generics,
+                    numbers,
+                    pairs,
+                    results,
+                    diagnostics,
+                ),
+                Head::NoAlias => write::poison(3, r.a, 0, 1, span, ctx, results, diagnostics),
+                Head::NoNumber => write::poison(1, r.a, 0, 0, span, ctx, results, diagnostics),
+            }
+        }
+        7 => {
+            let child = resolve_type_expr_with_substitution(
+                left - 1,
+                book,
+                parameter,
+                argument,
+                r.a,
+                span_at(book, r.a),
+                scope,
+                ctx,
+                ambiguous,
+                aliases,
+                generics,
+                numbers,
+                pairs,
+                results,
+                diagnostics,
+            );
+            leaf::over_one(r.sub, r.v, child, results)
+        }
+        8 => {
+            let one = resolve_type_expr_with_substitution(
+                left - 1,
+                book,
+                parameter,
+                argument,
+                r.a,
+                span_at(book, r.a),
+                scope,
+                ctx,
+                ambiguous,
+                aliases,
+                generics,
+                numbers,
+                pairs,
+                results,
+                diagnostics,
+            );
+            let Resolved::Root(root, behind) = one else {
+                return one;
+            };
+            let other = resolve_type_expr_with_substitution(
+                left - 1,
+                book,
+                parameter,
+                argument,
+                r.b,
+                span_at(book, r.b),
+                scope,
+                behind,
+                ambiguous,
+                aliases,
+                generics,
+                numbers,
+                pairs,
+                results,
+                diagnostics,
+            );
+            leaf::over_two(r.sub, root, other, results)
+        }
+        _ => leaf::resolve_leaf(
+            r,
+            span,
+            scope,
+            ctx,
+            ambiguous,
+            aliases,
+            numbers,
+            pairs,
+            results,
+            diagnostics,
+        ),
+    }
+}
