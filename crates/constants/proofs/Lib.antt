@@ -24,3 +24,4 @@ pub mod Settles
 pub mod Earliest
 pub mod Arrays
 pub mod Settling
+pub mod Demand3

@@ -11,3 +11,4 @@ pub mod Whole
 pub mod SameTrees
 pub mod Tables
 pub mod Evaluated
+pub mod Demand3

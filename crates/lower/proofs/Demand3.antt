@@ -4,7 +4,7 @@ use Prim.Native.Nat.{ℕ}
 use mathlib.Core.List.{List}
 use mathlib.Core.Logic.{_↔_, Iff·trans, Iff·symm}
 use mathlib.Core.Option.{some, none}
-use mathlib.Core.Path.{_≡_, refl, sym, _∙_, ap, subst}
+use mathlib.Core.Path.{_≡_, refl, subst}
 use lib.IntN.{ℤ}
 use Rattle.record.specs.Bytes.{AreBytes}
 use Rattle.book.specs.Outline.{read}
@@ -13,32 +13,17 @@ use Rattle.constants.specs.Eval.{empty}
 use Rattle.constants.specs.Order.{Constant, each, Reached}
 use Rattle.constants.specs.OfBook.{constants}
 use Rattle.constants.specs.Theory.{Distinct, Stores}
-use Rattle.constants.specs.Changes.{DeclaresAll}
-use Rattle.constants.proofs.Tests.{declares-mem}
 use Rattle.constants.proofs.Distinct.{accepted-is-distinct}
-use Rattle.constants.proofs.SameTrees.{same-expressions-are-equal}
 use Rattle.constants.proofs.Order.{reached-declared}
 use Rattle.constants.proofs.Final.{settles-if}
 use Rattle.constants.proofs.Stored.{stores-the-stored}
 use Rattle.constants.proofs.Changes.{rings-are-unreached, extension-keeps, reordering}
 use Rattle.lower.specs.LowerBook.{lowerBook}
 use Rattle.lower.specs.Laws.{IsAccepted}
-use Rattle.lower.specs.Demand3.{Stands, StoredFor, DeclaresAllOf, AddsNoneTo, OfEach, OfBoth, Demand3}
+use Rattle.constants.specs.Demand3.{StoredFor, DeclaresAllOf}
+use Rattle.constants.proofs.Demand3.{has-all, has-no-more}
+use Rattle.lower.specs.Demand3.{Stands, OfEach, OfBoth, Demand3}
 use Rattle.lower.proofs.Told.{stored-are-told, accepted-unrefused}
-
--- from two books that are not refused to their lists of constants
-module _ (first second : List ℕ) (one : firstRefusal first ≡ none) (two : firstRefusal second ≡ none) (all : DeclaresAllOf second first) where
-  pub has-all : DeclaresAll (constants (read second)) (constants (read first))
-  has-all c m =
-      let x = all c m in
-      (x .0, x .1, x .2, sym (same-expressions-are-equal first second one two c (x .0) m (x .1) .0 (x .3)))
-
-  pub has-no-more : AddsNoneTo second first → DeclaresAll (constants (read first)) (constants (read second))
-  has-no-more adds d m =
-      let x = declares-mem (constants (read first)) (d .name) (adds d m) in
-      let y = has-all (x .0) (x .1) in
-      let same = accepted-is-distinct second two (y .0) d (y .1) m (y .2 ∙ x .2) in
-      (x .0, x .1, x .2, sym (y .3) ∙ ap (λ (c : Constant). c .expr) same)
 
 -- one accepted book
 module _ (book results diagnostics : List ℕ) (bytes : AreBytes book) (is : IsAccepted (lowerBook book results diagnostics)) where

@@ -12,11 +12,10 @@ use Rattle.record.specs.declared.Record.{Record}
 use Rattle.record.specs.Bytes.{AreBytes}
 use Rattle.arith.specs.Word.{signed}
 use Rattle.book.specs.Outline.{read}
-use Rattle.constants.specs.Order.{Constant, each, declares}
+use Rattle.constants.specs.Order.{Constant}
 use Rattle.constants.specs.OfBook.{constants}
-use Rattle.constants.specs.SameTrees.{SameExpression}
-use Rattle.constants.specs.Stored.{Stored}
 use Rattle.constants.specs.Leads.{LiesOnRing, LeadsIntoRing}
+use Rattle.constants.specs.Demand3.{StoredFor, DeclaresAllOf, AddsNoneTo}
 use Rattle.types.specs.Step.{isStored}
 use Rattle.lower.specs.LowerBook.{Lowered}
 use Rattle.lower.specs.Laws.{IsAccepted, firstRecords}
@@ -34,25 +33,6 @@ pub record Stands (x : Lowered) (n : ℕ) (z : ℤ) : Type 0 where
   pub marked : isStored entry ≡ true
   pub name : entry .a ≡ n
   pub value : signed (entry .v) ≡ z
-
--- the constant n is one "that demand 2 says is stored" for a book, with the value z, "no constant having a value beforehand"
-abbrev pub StoredFor : List ℕ → ℕ → ℤ → Type 0
-StoredFor book n z = Stored each (constants (read book)) n z
-
--- "the second declares every constant of the first with the same expression"
-abbrev pub DeclaresAllOf : List ℕ → List ℕ → Type 0
-DeclaresAllOf second first =
-    (c : Constant) →
-    List·Memᴰ c (constants (read first)) →
-    (d : Constant)
-    × List·Memᴰ d (constants (read second))
-    × (d .name ≡ c .name)
-    × SameExpression (read first) c (read second) d
-
--- "Where none is added": the second adds none to the first
-abbrev pub AddsNoneTo : List ℕ → List ℕ → Type 0
-AddsNoneTo second first =
-    (d : Constant) → List·Memᴰ d (constants (read second)) → declares (constants (read first)) (d .name) ≡ true
 
 -- of one accepted book
 pub record OfEach (book : List ℕ) (x : Lowered) : Type 0 where

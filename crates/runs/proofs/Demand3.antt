@@ -32,7 +32,8 @@ use Rattle.types.specs.Step.{isStored}
 use Rattle.lower.specs.LowerBook.{Lowered}
 use Rattle.lower.specs.Laws.{IsAccepted, firstRecords}
 use Rattle.lower.proofs.Demand3.{demand-3}
-use Rattle.lower.specs.Demand3.{AnyLowering, Stands, StoredFor, DeclaresAllOf, AddsNoneTo, OfEach, OfBoth, Demand3}
+use Rattle.constants.specs.Demand3.{StoredFor, DeclaresAllOf, AddsNoneTo}
+use Rattle.lower.specs.Demand3.{AnyLowering, Stands, OfEach, OfBoth, Demand3}
 use Rattle.runs.specs.Books.{rec}
 use Rattle.runs.specs.Compute.{computed}
 use Rattle.runs.specs.Known.{N1, N2, N3}

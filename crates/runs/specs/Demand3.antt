@@ -18,7 +18,8 @@ use Rattle.constants.specs.Leads.{LiesOnRing, LeadsIntoRing}
 use Rattle.constants.specs.OfBook.{constants, settled}
 use Rattle.lower.specs.LowerBook.{Lowered, lowerRead, lowerBook}
 use Rattle.lower.specs.Laws.{IsAccepted}
-use Rattle.lower.specs.Demand3.{AnyLowering, Stands, StoredFor, DeclaresAllOf, AddsNoneTo, OfBoth, Demand3}
+use Rattle.constants.specs.Demand3.{StoredFor, DeclaresAllOf, AddsNoneTo}
+use Rattle.lower.specs.Demand3.{AnyLowering, Stands, OfBoth, Demand3}
 use Rattle.runs.specs.Books.{bookOf, rec}
 use Rattle.runs.specs.Known.{N1, N2, N3, k1, k6, k7}
 use Rattle.runs.specs.Slips.{N4, N5}
