@@ -1,17 +1,25 @@
 -- The definitions at work: the header of the book K1 of document 01, which is accepted with 4 results, 0 diagnostics and 2 constants; names;
--- and what each cause asks.
+-- what each cause asks; and which 41s tell some constants.
 -- Assumes nothing.
 use Prim.Native.Nat.{ℕ}
 use mathlib.Core.Bool.{true, false}
 use mathlib.Core.List.{List, [], _∷_, _++_}
+use mathlib.Core.Option.{Option, some, none}
 use mathlib.Core.Path.{_≡_, refl}
+use lib.IntN.{ℤ, pos}
 use lib.ListN.{replicate}
 use Rattle.record.specs.Bytes.{littleEndian, littleBytes}
+use Rattle.record.specs.declared.Record.{Record}
+use Rattle.arith.specs.Word.{word}
+use Rattle.constants.specs.Expr.{reference}
+use Rattle.constants.specs.Order.{Settled}
+use Rattle.constants.specs.Evaluated.{hasValue, valueOr0}
 use Rattle.replay.specs.Bytes.{printed, zeros, isName}
 use Rattle.replay.specs.Layout.{headerOf}
 use Rattle.replay.specs.Range.{inRange, wellFormed}
 use Rattle.replay.specs.Agree.{changes, follows, agrees, placesIn, suits}
 use Rattle.replay.specs.Checks.{mustHold}
+use Rattle.replay.specs.Constants.{sayEach}
 use Rattle.replay.specs.Outcome.{complete, formed}
 use Rattle.replay.specs.declared.layout.Part.{Part}
 
@@ -53,3 +61,23 @@ cleared = (refl, (refl, refl))
 held : (mustHold 2 5 64 ≡ 5) × ((mustHold 3 5 64 ≡ 6) × (mustHold 0 0 64 ≡ 64))
 unfolding mustHold
 held = (refl, (refl, refl))
+
+-- K1's constants, N1 = 6 and N2 = 42, and a third without a value: a 41 for each, in their order, and none besides
+told : ℕ → ℕ → ℕ → Record
+told name sub value = record { kind = 41; sub = sub; a = name; b = 0; c = 0; v = value; span = record { offset = 0; len = 0 } }
+
+is-worth : ℕ → Option ℤ → Settled
+is-worth name value = record { constant = record { place = 0; name = name; expr = reference 0 }; value = value }
+
+three : List Settled
+three = is-worth 1 (some (pos 6)) ∷ is-worth 2 (some (pos 42)) ∷ is-worth 3 none ∷ []
+
+each-told : sayEach (told 1 1 6 ∷ told 2 1 42 ∷ told 3 0 0 ∷ []) three ≡ true
+unfolding told is-worth three sayEach hasValue valueOr0 word
+each-told = refl
+
+not-told :
+    (sayEach (told 1 1 6 ∷ told 2 1 43 ∷ told 3 0 0 ∷ []) three ≡ false)
+    × ((sayEach (told 2 1 42 ∷ told 1 1 6 ∷ told 3 0 0 ∷ []) three ≡ false) × (sayEach (told 1 1 6 ∷ told 2 1 42 ∷ []) three ≡ false))
+unfolding told is-worth three sayEach hasValue valueOr0 word
+not-told = (refl, (refl, refl))

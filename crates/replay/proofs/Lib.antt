@@ -1,4 +1,6 @@
 mod Scans
 mod Tallies
 mod Backs
+mod Settled
+mod Standing
 mod Examples

@@ -4,5 +4,6 @@ pub mod Range
 pub mod Agree
 pub mod Checks
 pub mod Reading
+pub mod Constants
 pub mod Outcome
 pub mod Totals

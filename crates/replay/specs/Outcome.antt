@@ -10,6 +10,7 @@ use Rattle.replay.specs.Bytes.{bit}
 use Rattle.replay.specs.Agree.{follows, agrees, blocksIn, suits}
 use Rattle.replay.specs.Checks.{mustHold, holding, failing, readingBack}
 use Rattle.replay.specs.Reading.{readsAs}
+use Rattle.replay.specs.Constants.{constantsAgree}
 use Rattle.replay.specs.declared.layout.Header.{Header}
 use Rattle.replay.specs.declared.answer.Outcome.{Outcome}
 
@@ -24,17 +25,19 @@ complete h book results diagnostics =
 unfoldable pub formed : Header → ℕ → ℕ → ℕ → Bool
 formed h book results diagnostics = agrees h && suits h book && complete h book results diagnostics
 
--- the book reads as the reply says, the first n blocks hold their checks, block n does not if the cause is 2, and the records of the n blocks are
--- read back
-unfoldable pub checked : Header → List ℕ → ℕ → Outcome
-checked h book n =
+-- the book reads as the reply says, the constants stand if it is accepted, the first n blocks hold their checks, block n does not if the cause is
+-- 2, and the records of the n blocks are read back
+unfoldable pub checked : Header → List ℕ → List ℕ → ℕ → Outcome
+checked h book results n =
     record {
       right =
           readsAs h (readBook book)
+          && (not (eqb (h .cause) 0) || constantsAgree h book results (readBook book))
           && eqb (holding book n) n
           && (not (eqb (h .cause) 2) || failing (h .cause) book n)
           && eqb (readingBack book (21 * n)) (21 * n);
       read = readsAs h (readBook book);
+      constants = constantsAgree h book results (readBook book);
       blocks = holding book n + bit (failing (h .cause) book n);
       records = readingBack book (21 * n);
     }
@@ -42,10 +45,11 @@ checked h book n =
 -- an answer is right where its form is and its checks are
 unfoldable pub outcome : Header → List ℕ → List ℕ → List ℕ → Outcome
 outcome h book results diagnostics =
-    let found : Outcome = checked h book (mustHold (h .cause) (h .place) (blocksIn (length book))) in
+    let found : Outcome = checked h book results (mustHold (h .cause) (h .place) (blocksIn (length book))) in
     record {
       right = formed h (length book) (length results) (length diagnostics) && found .right;
       read = found .read;
+      constants = found .constants;
       blocks = found .blocks;
       records = found .records;
     }

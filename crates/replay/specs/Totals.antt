@@ -14,6 +14,7 @@ counted t accepted o =
       accepted = t .accepted + bit accepted;
       refused = t .refused + bit (not accepted);
       read = t .read + bit (o .read);
+      constants = t .constants + bit (o .constants);
       blocks = t .blocks + o .blocks;
       records = t .records + o .records;
       wrong = t .wrong + bit (not (o .right));
@@ -24,6 +25,7 @@ pub record Within (t : Totals) : Type 0 where
   pub accepted : t .accepted ≤ t .answers
   pub refused : t .refused ≤ t .answers
   pub read : t .read ≤ t .answers
+  pub constants : t .constants ≤ t .answers
   pub blocks : t .blocks ≤ 65535 * t .answers
   pub records : t .records ≤ 65535 * t .answers
   pub wrong : t .wrong ≤ t .answers

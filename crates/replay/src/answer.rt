@@ -7,12 +7,15 @@ use crate::agree;
 use crate::checks;
 use crate::layout::Header;
 use crate::reading;
+use crate::values;
 
-// What is found of an answer: whether it is right, whether its book reads as the reply says, how many blocks have the
-// check that they should have or not have, and how many records are read back.
+// What is found of an answer: whether it is right, whether its book reads as the reply says, whether it is accepted and
+// its constants stand among the results, how many blocks have the check that they should have or not have, and how
+// many records are read back.
 pub struct Outcome {
     pub right: bool,
     pub read: bool,
+    pub constants: bool,
     pub blocks: u16,
     pub records: u16,
 }
@@ -35,34 +38,43 @@ fn is_formed(h: Header, book: usize, results: usize, diagnostics: usize) -> bool
         & is_complete(h, book, results, diagnostics)
 }
 
-// Whether its book reads as the reply says; the checks of the book's first n blocks and of their records.
-fn check_book(h: Header, book: &[u8], n: u16) -> Outcome
+// Whether its book reads as the reply says, and its constants stand; the checks of the book's first n blocks and of
+// their records.
+fn check_book(h: Header, book: &[u8], results: &[u8], n: u16) -> Outcome
     requires { ⌜ n ≤ 64 ⌝ }
-    ensures { λ r. ⌜ r ≡ checked h (now (book .entry)) n ⌝ }
+    ensures { λ r. ⌜ r ≡ checked h (now (book .entry)) (now (results .entry)) n ⌝ }
 {
     let holding = checks::count_holding(book, n);
     let fails = checks::block_fails(h.cause, book, n);
     let back = checks::count_back(book, 21 * n);
-    let read = reading::book_reads(h, book);
+    let reading = book::read_book(book);
+    let read = reading::reading_agrees(h, reading);
+    let constants = values::constants_agree(h, book, results, reading);
     Outcome {
-        right: read & (holding == n) & ((h.cause != 2) | fails) & (back == 21 * n),
+        right: read
+            & ((h.cause != 0) | constants)
+            & (holding == n)
+            & ((h.cause != 2) | fails)
+            & (back == 21 * n),
         read,
+        constants,
         blocks: holding + fails as u16,
         records: back,
     }
 }
 
-// What is found of an answer that is handed over whole. What the slices hold is for the lowering to say; until it is
-// there, their lengths are held to the header.
+// What is found of an answer that is handed over whole. What else the slices hold is for the lowering to say; until it
+// is there, their lengths are held to the header.
 pub(crate) fn replay_answer(h: Header, book: &[u8], results: &[u8], diagnostics: &[u8]) -> Outcome
     ensures { λ r. ⌜ r ≡ outcome h (now (book .entry)) (now (results .entry)) (now (diagnostics .entry)) ⌝ }
 {
     let formed = is_formed(h, book.len(), results.len(), diagnostics.len());
     let n = checks::must_hold(h.cause, h.place, agree::block_count(book.len()));
-    let found = check_book(h, book, n);
+    let found = check_book(h, book, results, n);
     Outcome {
         right: formed & found.right,
         read: found.read,
+        constants: found.constants,
         blocks: found.blocks,
         records: found.records,
     }

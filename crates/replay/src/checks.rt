@@ -9,7 +9,7 @@ use record::check;
 use record::write;
 
 // The smaller of two numbers.
-fn least(x: u64, most: u16) -> u16
+pub(crate) fn least(x: u64, most: u16) -> u16
     ensures { λ r. ⌜ r ≡ min x most ⌝ }
 {
     if x < most as u64 { x as u16 } else { most }

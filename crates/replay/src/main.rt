@@ -1,5 +1,5 @@
-// Reads a list of answers on standard input, checks the form of each and what the crates `record` and `book` can tell of
-// its book, and prints the totals.
+// Reads a list of answers on standard input, checks the form of each and what the crates `record`, `book` and
+// `constants` can tell of its book, and prints the totals.
 
 mod agree;
 mod answer;
@@ -9,6 +9,7 @@ mod layout;
 mod range;
 mod reading;
 mod totals;
+mod values;
 
 use answer::Outcome;
 use layout::Header;
@@ -125,6 +126,7 @@ fn print_totals(t: Totals) {
     print_line(b"accepted ", t.accepted);
     print_line(b"refused ", t.refused);
     print_line(b"read ", t.read);
+    print_line(b"constants ", t.constants);
     print_line(b"blocks ", t.blocks);
     print_line(b"records ", t.records);
     print_line(b"wrong ", t.wrong);

@@ -1,13 +1,13 @@
 // What the crate `book` answers for a book, beside the reply that the list has.
 
 ghost use mathlib.Core.Path.{_≡_};
-ghost use Rattle.book.specs.Answer.{answerOf, readBook};
+ghost use Rattle.book.specs.Answer.{answerOf};
 ghost use Rattle.replay.specs.Reading.{readsAs};
 use crate::layout::Header;
 use book::Reading;
 
 // Whether reading a book gave what the reply says: refused by 1 to 8 with its number and its place, and else accepted.
-fn reading_agrees(h: Header, reading: Reading) -> bool
+pub(crate) fn reading_agrees(h: Header, reading: Reading) -> bool
     ensures { λ r. ⌜ r ≡ readsAs h (answerOf reading) ⌝ }
 {
     match reading {
@@ -16,11 +16,4 @@ fn reading_agrees(h: Header, reading: Reading) -> bool
             (book::number(cause) as u32 == h.cause) & (place as u32 == h.place)
         }
     }
-}
-
-// Whether reading the bytes of a book gives what the reply says.
-pub(crate) fn book_reads(h: Header, bytes: &[u8]) -> bool
-    ensures { λ r. ⌜ r ≡ readsAs h (readBook (now (bytes .entry))) ⌝ }
-{
-    reading_agrees(h, book::read_book(bytes))
 }

@@ -207,7 +207,7 @@ fn list() -> (Vec<u8>, String, Vec<Answer>) {
     }
     let n = answers.len();
     let says = format!(
-        "answers {n}\naccepted {accepted}\nrefused {}\nread {n}\nblocks {blocks}\nrecords {records}\nwrong 0\n",
+        "answers {n}\naccepted {accepted}\nrefused {}\nread {n}\nconstants {accepted}\nblocks {blocks}\nrecords {records}\nwrong 0\n",
         n - accepted
     );
     (out, says, answers)

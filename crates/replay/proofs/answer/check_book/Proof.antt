@@ -7,14 +7,16 @@ use Rattle.replay.proofs.Tallies.{bit-small}
 use Rattle.replay.proofs.answer.check_book.Statement.{statement}
 use Rattle.replay.proofs.answer.check_book.Tie as tie
 
-add-t17 : tie.Need-add-t17
-add-t17 c = omega (arith, bit-small (c .before .before .before .block-fails .result))
+add-t23 : tie.Need-add-t23
+add-t23 c = omega (arith, bit-small (c .before .before .before .before .before .before .block-fails .result))
 
 returns : tie.Need-returns
 unfolding checked
 returns c =
-    let b = c .before .before .before in
-    rw (b .before .count-holding .ensures .0, b .block-fails .ensures, c .before .before .count-back .ensures .0, c .before .book-reads .ensures)
+    let r = c .before .before .before .before in
+    let b = r .before .before in
+    rw (b .before .count-holding .ensures .0, b .block-fails .ensures, r .before .count-back .ensures .0)
+    (rw (c .before .before .before .reading-agrees .ensures, c .before .before .constants-agree .ensures, r .read-book .ensures))
 
 pub check-book-spec : {M : Type 1} → statement M
 check-book-spec =
@@ -25,7 +27,9 @@ check-book-spec =
     (λ c. search needs)
     (λ c κs. search needs)
     (λ c κs. search needs)
+    (λ c κs. search needs)
+    (λ c κs. search needs)
     (λ c. search needs)
     (λ c. search needs)
-    add-t17
+    add-t23
     returns)

@@ -17,16 +17,21 @@ add-t9 c = omega (arith, bit-small (not (c .before .before .before .args .accept
 add-t11 : tie.Need-add-t11
 add-t11 c = omega (arith, bit-small (c .before .before .before .before .before .args .o .read))
 
-add-t18 : tie.Need-add-t18
-add-t18 c =
-    let a = c .before .before .before .before .before .before .before .before .before .before .before .args in
-    omega (arith, bit-small (not (a .o .right)))
+add-t13 : tie.Need-add-t13
+add-t13 c = omega (arith, bit-small (c .before .before .before .before .before .before .before .args .o .constants))
+
+add-t20 : tie.Need-add-t20
+add-t20 c =
+    let s = c .before .before .before .before .before .before .before .before .before .before .before .before .before in
+    omega (arith, s .pre .0, s .pre .1 .wrong, bit-small (not (s .args .o .right)))
 
 returns : tie.Need-returns
 returns c =
-    let a = c .before .before .before .before .before .before .before .before .before .before .before .args in
-    let o = a .o in
-    (refl, omega (arith, bit-small (a .accepted), bit-small (not (a .accepted)), bit-small (o .read), bit-small (not (o .right))))
+    let s = c .before .before .before .before .before .before .before .before .before .before .before .before .before in
+    let within = s .pre .1 in
+    let accepted = s .args .accepted in
+    let o = s .args .o in
+    (refl, omega (arith, bit-small accepted, bit-small (not accepted), bit-small (o .read), bit-small (o .constants), bit-small (not (o .right))))
 
 pub count-spec : {M : Type 1} → statement M
 count-spec =
@@ -40,9 +45,11 @@ count-spec =
     (λ c. search needs)
     add-t11
     (λ c. search needs)
+    add-t13
     (λ c. search needs)
     (λ c. search needs)
     (λ c. search needs)
     (λ c. search needs)
-    add-t18
+    (λ c. search needs)
+    add-t20
     returns)
