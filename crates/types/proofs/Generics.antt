@@ -1,7 +1,7 @@
--- The generic aliases of a book: those with a type parameter, one record after the other.
+-- The aliases of a book: the generic ones, those with a type parameter, one record after the other; and what a record has that is an alias.
 -- Assumes nothing.
 use Prim.Native.Nat.{ℕ, suc, _+_, _*_, _≤_, _<_}
-use mathlib.Core.Bool.{Bool, true, false, cond, _&&_}
+use mathlib.Core.Bool.{Bool, true, false, cond, not, _&&_}
 use mathlib.Core.List.{List, [], _∷_, _++_, map, List·Memᴰ, List·Memᴰ·append-cases}
 use mathlib.Core.Logic.{⊎-elim}
 use mathlib.Core.Option.{Option, some, none}
@@ -9,8 +9,10 @@ use mathlib.Core.Path.{_≡_, refl, sym, ap, _∙_}
 use native.Mathlib.Omega.{arith}
 use lib.ListN.{length}
 use borrow.Author.Tests.{eqb-true, ne-eqb}
+use Rattle.record.specs.declared.Record.{Record}
+use Rattle.record.specs.Layout.{recordAt}
 use Rattle.book.specs.Lists.{any, at, keep, upTo}
-use Rattle.book.specs.Blocks.{records}
+use Rattle.book.specs.Blocks.{recordCount, records}
 use Rattle.book.specs.Faults.{recordOf, isKind}
 use Rattle.book.specs.Outline.{Book, read, _!_, notes, numbersOf}
 use Rattle.book.specs.Trees.{Readable}
@@ -19,7 +21,11 @@ use Rattle.book.proofs.Members.{mem-keep}
 use Rattle.book.proofs.Listed.{keep-more, keep-apart, numbersBelow, listed-next, listed-length, mem-listed}
 use Rattle.types.specs.Numbers.{parameters, genericAt, typeDeclarations, genericAliases}
 use Rattle.types.specs.Standing.{genericWord}
-use Rattle.types.proofs.Typing.{isType, type-kind, Other}
+use Rattle.types.specs.Steps.{IsType}
+use Rattle.types.specs.Registered.{IsAlias}
+use Rattle.types.specs.Aliased.{isPlainAlias}
+use Rattle.types.proofs.Heads.{target-is}
+use Rattle.types.proofs.Typing.{isType, type-kind, Other, its-name}
 
 -- something is there
 abbrev there : {A : Type 0} → Option A → Bool
@@ -107,3 +113,38 @@ few-declared {bytes} readable =
     let both = keep-apart (λ k. isType (recordOf rs k)) (λ k. isKind 23 (recordOf rs k)) apart (upTo (length rs)) in
     let fewer = keep-length (isGeneric (read bytes)) (numbersBelow (isKind 23) rs (length rs)) in
     omega (arith, both, fewer, from-length 0 (length rs), readable .counted, readable .few-records)
+
+-- record n, which is r
+module _ {bytes : List ℕ} (readable : Readable bytes) {n : ℕ} (less : n < recordCount bytes) {r : Record} (is-at : r ≡ recordAt bytes n) where
+  pub there-is : read bytes ! n ≡ r
+  unfolding read
+  there-is = readable .in-range n less .there ∙ sym is-at
+
+  pub is-alias-at : r .kind ≡ 23 → IsAlias bytes n
+  unfolding read
+  is-alias-at kind = record { readable = readable; here = less; kind = ap (λ r. r .kind) there-is ∙ kind }
+
+  -- it is a plain alias, by its kind and its first type parameter
+  pub no-alias-at : (r .kind ≡ 23 → ⊥) → false ≡ isPlainAlias (read bytes) n
+  unfolding isPlainAlias
+  no-alias-at other = rw (there-is, ne-eqb (r .kind) 23 other)
+
+  pub plain-at : r .kind ≡ 23 → (o : Option ℕ) → o ≡ at (parameters (read bytes) n) 0 → not (there o) ≡ isPlainAlias (read bytes) n
+  unfolding isPlainAlias
+  plain-at kind o e = rw (there-is, kind, generic-is (read bytes) n e)
+
+-- it is an alias: its name and its target
+module _ {bytes : List ℕ} {n : ℕ} (x : IsAlias bytes n) {r : Record} (is-at : r ≡ recordAt bytes n) where
+  here : n < length (records bytes)
+  here = omega (arith, x .here, x .readable .counted)
+
+  pub alias-is : read bytes ! n ≡ r
+  alias-is = there-is (x .readable) (x .here) is-at
+
+  pub alias-name : r .a < 4096
+  unfolding read
+  alias-name = rw alias-is at (its-name (records bytes) (x .readable .well-formed) here (omega (arith, x .kind)) (omega (arith, x .kind)))
+
+  pub alias-target : IsType bytes (r .b)
+  unfolding read
+  alias-target = rw alias-is at (target-is (x .readable) n here (x .kind))

@@ -127,18 +127,19 @@ module _ {bytes : List ℕ} (readable : Readable bytes) where
       go [] h = omega arith
       go (p ∷ ps) h = h .0
 
+  -- the target of an alias
+  pub target-is : (n : ℕ) → n < length (records bytes) → recordOf (records bytes) n .kind ≡ 23 → IsType bytes (recordOf (records bytes) n .b)
+  target-is n less kind =
+      let w = readable .well-formed n less in
+      let c = targets (IsChild (records bytes) n) (recordOf (records bytes) n) kind (w .shaped) (w .children-are) in
+      record { readable = readable; here = omega (arith, c .earlier, less, readable .counted); of-group = c .of-group }
+
   -- a generic alias of the book
   generic-is : (n : ℕ) → List·Memᴰ n (genericAliases (read bytes)) → IsGeneric bytes (genericAt (read bytes) n)
   unfolding genericAliases genericAt numbersOf read
   generic-is n m =
       let (below, is) = mem-keep _ _ (mem-keep _ _ m .0) in
-      let less = mem-up-to _ below in
-      let w = readable .well-formed n less in
-      let c = targets (IsChild (records bytes) n) (recordOf (records bytes) n) (eqb-true _ _ is) (w .shaped) (w .children-are) in
-      record {
-        parameter = generic-parameter n;
-        target = record { readable = readable; here = omega (arith, c .earlier, less, readable .counted); of-group = c .of-group };
-      }
+      record { parameter = generic-parameter n; target = target-is n (mem-up-to _ below) (eqb-true _ _ is) }
 
 -- what holds of the elements holds of them with their numbers
 all-numbered :

@@ -25,3 +25,7 @@ pub mod Numbering
 pub mod Typing
 pub mod Generics
 pub mod Registering
+pub mod Rooting
+pub mod Finishing
+pub mod Aliasing
+pub mod Starting

@@ -68,7 +68,7 @@ module _
           rw (low, name-is (read bytes) n k is refl refl refl refl) (an-alias a)
 
   -- and POISON is none
-  no-alias : getD aliases n 0 ≡ POISON → aliasOf k n ≡ none
+  pub no-alias : getD aliases n 0 ≡ POISON → aliasOf k n ≡ none
   unfolding AliasIs
   no-alias e = go (aliasOf k n) (f .aliases-are n below)
     where

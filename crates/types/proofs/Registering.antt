@@ -23,8 +23,8 @@ use Rattle.types.specs.Numbers.{parameters, genericAt, typeDeclarations,
 use Rattle.types.specs.Standing.{genericWord}
 use Rattle.types.specs.Registered.{IsAlias, Ambiguous, Typed, Registered}
 use Rattle.types.proofs.Numbering.{Numbered, numbered-by, number-is}
-use Rattle.types.proofs.Typing.{namesOf, its-name, numbered-next, declared-is}
-use Rattle.types.proofs.Generics.{generic-is, word-is, genericsBelow, generics-next, generics-length, others, few-declared}
+use Rattle.types.proofs.Typing.{namesOf, numbered-next, declared-is}
+use Rattle.types.proofs.Generics.{there-is, is-alias-at, generic-is, word-is, genericsBelow, generics-next, generics-length, others, few-declared}
 
 -- a list with some numbers at its front, and one number more
 abbrev fill : List ℕ → List ℕ → List ℕ
@@ -124,8 +124,7 @@ module _
     -- record n, which is r
     module _ (less : n < recordCount bytes) {r : Record} (is-at : r ≡ recordAt bytes n) where
       is : book ! n ≡ r
-      unfolding read
-      is = readable .in-range n less .there ∙ sym is-at
+      is = there-is readable less is-at
 
       here : n < length (book .records)
       unfolding read
@@ -148,24 +147,19 @@ module _
       registering-other other = skipped (generics-next book n false _ (ap (isKind 23) is ∙ ne-eqb (r .kind) 23 other) refl)
 
       module _ (kind : r .kind ≡ 23) where
-        pub is-alias-at : IsAlias bytes n
-        unfolding read
-        is-alias-at = record { readable = readable; here = less; kind = ap (λ r. r .kind) is ∙ kind }
+        alias : IsAlias bytes n
+        alias = is-alias-at readable less is-at kind
 
         passes : isKind 23 (book ! n) ≡ true
         passes = ap (isKind 23) is ∙ eq-eqb (r .kind) 23 kind
 
         low : 20 ≤ (book ! n) .kind
         unfolding read
-        low = omega (arith, is-alias-at .kind)
+        low = omega (arith, alias .kind)
 
         high : (book ! n) .kind ≤ 23
         unfolding read
-        high = omega (arith, is-alias-at .kind)
-
-        pub alias-name : r .a < 4096
-        unfolding read
-        alias-name = rw is at (its-name (records bytes) (readable .well-formed) here low high)
+        high = omega (arith, alias .kind)
 
         -- it is a plain alias
         pub registering-plain : none ≡ at (parameters book n) 0 → Registering bytes (n + 1) next types lent generics numbers
@@ -185,7 +179,7 @@ module _
             let number : next ≡ length declared = rw length-append (omega (arith, g .count, g .types-are)) in
             let inside : length (map word l) < length lent =
             rw length-map (omega (arith, g .long, generics-length book n, readable .few-records)) in
-            let before = others book n here (is-alias-at .kind) in
+            let before = others book n here (alias .kind) in
             let numbered = numbered-next (records bytes) (readable .well-formed) here low high (g .numbered) before in
             rw (add-one n)
             record {

@@ -6,12 +6,11 @@ use mathlib.Core.List.{List, [], _∷_, _++_, append-nil}
 use mathlib.Core.Option.{Option, some, none, Option·map, orElse}
 use mathlib.Core.Path.{_≡_, refl, sym, ap, _∙_, subst}
 use native.Mathlib.Decide.{ℕ-discrete}
-use native.Mathlib.Numerals.{add-one}
 use native.Mathlib.Omega.{arith}
 use lib.Dec.{ltb, eqb}
 use lib.ListN.{length, take, set, getD, length-set, length-take, length-append}
 use lib.Seq.{take-suc, take-suc-set, getD-set-same, getD-set-other}
-use borrow.Author.Tests.{eq-eqb, ne-eqb, eqb-true, ltb-true, le-ltb}
+use borrow.Author.Tests.{eq-eqb, ne-eqb, ltb-true, le-ltb}
 use Rattle.record.specs.declared.Record.{Record}
 use Rattle.record.specs.Named.{namedRecord}
 use Rattle.record.specs.Write.{roomFor}
@@ -47,7 +46,7 @@ module _ {A : Type 0} (n : ℕ) where
   one-entry name x true e = rw (e, find) refl
   one-entry name x false e = rw (e, find) refl
 
-  entry-other : (name : ℕ) (x : A) (l : List (ℕ × A)) → (n ≡ name → ⊥) → entry n (l ++ ((name, x) ∷ [])) ≡ entry n l
+  pub entry-other : (name : ℕ) (x : A) (l : List (ℕ × A)) → (n ≡ name → ⊥) → entry n (l ++ ((name, x) ∷ [])) ≡ entry n l
   unfolding orElse
   entry-other name x l other = behind l (name, x) ∙ ap (orElse (entry n l)) (one-entry name x false (ne-eqb name n (λ e. other (sym e)))) ∙ go (entry n l)
     where
@@ -55,7 +54,7 @@ module _ {A : Type 0} (n : ℕ) where
       go none = refl
       go (some x) = refl
 
-  entry-new : (x : A) (l : List (ℕ × A)) → entry n l ≡ none → entry n (l ++ ((n, x) ∷ [])) ≡ some x
+  pub entry-new : (x : A) (l : List (ℕ × A)) → entry n l ≡ none → entry n (l ++ ((n, x) ∷ [])) ≡ some x
   unfolding orElse
   entry-new x l e = behind l (n, x) ∙ ap (λ o. orElse o (entry n ((n, x) ∷ []))) e ∙ one-entry n x true (eq-eqb n n refl)
 

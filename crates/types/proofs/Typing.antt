@@ -65,16 +65,19 @@ module _ (rs : List Record) where
     pub its-name : recordOf rs n .a < 4096
     its-name = shaped-name (recordOf rs n) (sound n less .shaped) (omega (arith, shared-set (recordOf rs n) low high))
 
+    pub other-name : {k : ℕ} → Other n k → recordOf rs k .a ≡ recordOf rs n .a → ⊥
+    other-name {k} o same =
+        let set-k = shared-set (recordOf rs k) (o .low) (o .high) in
+        let set-n = shared-set (recordOf rs n) low high in
+        o .another (declared-once rs sound k n (o .there) less (omega (arith, set-n)) (sym set-k ∙ set-n) same)
+
     new : {l : List ℕ} → ((k : ℕ) → List·Memᴰ k l → Other n k) → isIn (recordOf rs n .a) (namesOf l) ≡ false
     new {l} others = not-so _ again
       where
         again : isIn (recordOf rs n .a) (namesOf l) ≡ true → ⊥
         again e =
             let (k, m, same) = any-mem _ l (sym (any-map (λ x. eqb x (recordOf rs n .a)) (λ k. recordOf rs k .a) l) ∙ e) in
-            let o = others k m in
-            let set-k = shared-set (recordOf rs k) (o .low) (o .high) in
-            let set-n = shared-set (recordOf rs n) low high in
-            o .another (declared-once rs sound k n (o .there) less (omega (arith, set-n)) (sym set-k ∙ set-n) (eqb-true _ _ same))
+            other-name (others k m) (eqb-true _ _ same)
 
     pub numbered-next :
         {l numbers : List ℕ} → Numbered (namesOf l) numbers → ((k : ℕ) → List·Memᴰ k l → Other n k) →

@@ -10,3 +10,4 @@ pub mod Standing
 pub mod Finds
 pub mod Steps
 pub mod Registered
+pub mod Aliased

@@ -1,9 +1,10 @@
 // Types of a signal book: their numbers, plain aliases, and the two resolvers.
 
+pub mod alias;
 mod copy;
 mod find;
 mod leaf;
-mod register;
+pub mod register;
 mod resolve;
 mod write;
 
@@ -47,4 +48,16 @@ pub enum Stop {
 pub enum Resolved {
     Root(u16, LowerCtx),
     Stopped(Stop),
+}
+
+// What is behind a declaration that was lowered: the counters; or why it was not.
+pub enum Lowered {
+    Done(LowerCtx),
+    Stopped(Stop),
+}
+
+// What is behind all plain aliases of a book: the counters; or why and where the lowering stopped.
+pub enum Aliases {
+    Lowered(LowerCtx),
+    Refused { stop: Stop, place: u16 },
 }

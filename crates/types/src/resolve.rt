@@ -3,7 +3,7 @@
 ghost use mathlib.Core.Path.{_≡_};
 ghost use Rattle.record.specs.Layout.{recordAt};
 ghost use Rattle.book.specs.Outline.{read};
-ghost use Rattle.types.specs.Resolve.{resolveTypeExpr, resolveTypeExprWithSubstitution};
+ghost use Rattle.types.specs.Resolve.{resolveType, resolveTypeExpr, resolveTypeExprWithSubstitution};
 ghost use Rattle.types.specs.Standing.{held, Reads, Stands, Resolves};
 ghost use Rattle.types.specs.Steps.{IsType, substitution};
 use crate::LowerCtx;
@@ -18,6 +18,9 @@ use crate::find::Head;
 use crate::leaf;
 use crate::write;
 use record::Span;
+
+// The steps that a type may take to be resolved.
+const DEPTH: u8 = 64;
 
 // The span of a record.
 fn span_at(book: &[u8], n: u16) -> Span
@@ -199,12 +202,14 @@ fn resolve_type_expr_with_substitution(
     match kind {
         6 => {
             let head = find::find_head(r.a, scope, aliases, generics, numbers, results);
+            // An inner generic passes its argument on as it stands.
+            let passed = r.b;
             match head {
                 Head::Alias { parameter, target } => resolve_type_expr_with_substitution(
                     left - 1,
                     book,
                     parameter,
-                    r.b,
+                    passed,
                     target,
                     span,
                     scope,
@@ -294,4 +299,42 @@ fn resolve_type_expr_with_substitution(
             diagnostics,
         ),
     }
+}
+
+// The type at record n of a declaration or an item.
+pub(crate) fn resolve_type(
+    book: &[u8],
+    n: u16,
+    scope: Scope,
+    ctx: LowerCtx,
+    ambiguous: &[bool; NAMES],
+    aliases: &[u32; NAMES],
+    generics: &[u32; RECORDS],
+    numbers: &mut [u32; NAMES],
+    pairs: &mut [u32; RESULTS],
+    results: &mut [u8],
+    diagnostics: &mut [u8],
+) -> Resolved
+    requires { ⌜ IsType (now book) n × Reads (now book) scope (now ambiguous) (now generics) ⌝ }
+    requires { ⌜ Stands (now book) scope (now aliases) ctx (held (now numbers) (now pairs) (now results) (now diagnostics)) ⌝ }
+    ensures { λ r. ⌜ Resolves (now (book .entry)) scope (now (aliases .entry)) ctx
+        (held (now (numbers .entry)) (now (pairs .entry)) (now (results .entry)) (now (diagnostics .entry)))
+        (resolveType (read (now (book .entry))) n) r
+        (held (now (numbers .exit)) (now (pairs .exit)) (now (results .exit)) (now (diagnostics .exit))) ⌝ }
+{
+    resolve_type_expr(
+        DEPTH,
+        book,
+        n,
+        span_at(book, n),
+        scope,
+        ctx,
+        ambiguous,
+        aliases,
+        generics,
+        numbers,
+        pairs,
+        results,
+        diagnostics,
+    )
 }

@@ -11,7 +11,8 @@ use Rattle.book.specs.Blocks.{recordCount}
 use Rattle.book.specs.Trees.{Readable}
 use Rattle.types.specs.Registered.{parameterOf}
 use Rattle.types.proofs.Registering.{Registering, registering-start, registering-end, next-from, types-few, next-small}
-use Rattle.types.proofs.Registering.{is-alias-at, alias-name, registering-other, registering-plain, registering-generic}
+use Rattle.types.proofs.Registering.{registering-other, registering-plain, registering-generic}
+use Rattle.types.proofs.Generics.{is-alias-at, alias-name}
 use Rattle.types.proofs.register.register_declarations.Statement.{statement}
 use Rattle.types.proofs.register.register_declarations.Tie as tie
 
@@ -48,7 +49,7 @@ parameter-of-requires : tie.Need-parameter-of-requires Inv-loop μ-loop
 parameter-of-requires c κs =
     let p = c .before .before in
     let l = p .before .before in (
-      is-alias-at (readable (p .before)) (l .loop .inv) (less (p .before)) (p .record-at .ensures) (c .if1 .taken),
+      is-alias-at (readable (p .before)) (less (p .before)) (p .record-at .ensures) (c .if1 .taken),
       l .before .before .before .before .before .pre .0 .1,
     )
 
@@ -69,7 +70,7 @@ element-write-numbers c =
     let f = c .before .before .before .before .before .before in
     let p = f .before .before in
     let t = p .before in
-    alias-name (readable t) (t .before .loop .inv) (less t) (p .record-at .ensures) (f .if1 .taken)
+    alias-name (is-alias-at (readable t) (less t) (p .record-at .ensures) (f .if1 .taken)) (p .record-at .ensures)
 
 add-next : tie.Need-add-next Inv-loop μ-loop
 add-next c =
