@@ -22,7 +22,7 @@ use Rattle.constants.specs.Values.{IsI64}
 use Rattle.constants.specs.Theory.{Distinct, Stores}
 use Rattle.constants.specs.Changes.{DeclaresAll}
 use Rattle.constants.specs.Evaluated.{filled, placeOf, hasValue, valueOr0, outcomeOver}
-use Rattle.constants.specs.Demand3.{StoredFor, DeclaresAllOf, AddsNoneTo, Evaluation, IsOf, StandsIn, OfEach, OfBoth, Demand3}
+use Rattle.constants.specs.Demand3.{DeclaresAllOf, AddsNoneTo, Evaluation, IsOf, StandsIn, OfEach, OfBoth, Demand3}
 use Rattle.constants.proofs.Tests.{declares-mem}
 use Rattle.constants.proofs.Distinct.{accepted-is-distinct}
 use Rattle.constants.proofs.SameTrees.{same-expressions-are-equal}

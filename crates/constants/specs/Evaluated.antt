@@ -9,9 +9,7 @@ use mathlib.Core.Path.{_≡_}
 use lib.IntN.{ℤ}
 use lib.ListN.{length, drop, set}
 use Rattle.arith.specs.Word.{word}
-use Rattle.book.specs.Blocks.{recordCount}
-use Rattle.book.specs.Outline.{Book, read}
-use Rattle.book.specs.Trees.{Readable}
+use Rattle.book.specs.Outline.{read}
 use Rattle.constants.specs.Eval.{evalConstExpr}
 use Rattle.constants.specs.Order.{Constant, Settled, each, outcome}
 use Rattle.constants.specs.OfBook.{constants}

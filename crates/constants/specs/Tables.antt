@@ -2,13 +2,13 @@
 -- Assumes nothing.
 use Prim.Native.Nat.{ℕ, _≤_, _<_}
 use mathlib.Core.Bool.{Bool, true, false, cond, not, _&&_, _||_}
-use mathlib.Core.List.{List, [], _∷_, _++_}
+use mathlib.Core.List.{List, [], _++_}
 use mathlib.Core.Option.{Option, some, none}
 use mathlib.Core.Path.{_≡_}
 use lib.Dec.{eqb}
-use lib.ListN.{length, take, getD, replicate}
+use lib.ListN.{length, take, getD}
 use Rattle.arith.specs.Word.{signed}
-use Rattle.book.specs.Lists.{find, keep}
+use Rattle.book.specs.Lists.{keep}
 use Rattle.book.specs.Shape.{constant, isOf}
 use Rattle.book.specs.Blocks.{recordCount, records}
 use Rattle.book.specs.Faults.{recordOf, isKind}
@@ -19,7 +19,7 @@ use Rattle.constants.specs.declared.expr.Name.the-variants.{Nothing, Is}
 use Rattle.constants.specs.Expr.{Expr, exprAt, refs}
 use Rattle.constants.specs.Eval.{Table}
 use Rattle.constants.specs.Order.{Constant, each, has, declares, repeats, admits, ready}
-use Rattle.constants.specs.OfBook.{constantAt, constants}
+use Rattle.constants.specs.OfBook.{constants}
 
 -- the values of names, from the arrays that hold them: which names have one, and its 64 bits
 unfoldable pub tableOf : List Bool → List ℕ → Table

@@ -3,7 +3,7 @@
 use Prim.Native.Nat.{ℕ, suc, _-_}
 use mathlib.Core.Bool.{Bool, true, false, cond, _&&_, true≢false}
 use mathlib.Core.List.{List}
-use mathlib.Core.Path.{_≡_, refl, sym, ap, _∙_, subst}
+use mathlib.Core.Path.{_≡_, refl, sym, ap, _∙_}
 use native.Mathlib.Omega.{arith}
 use lib.Dec.{ltb, eqb}
 use borrow.Author.Tests.{le-ltb, eq-eqb, ne-eqb, eqb-true}
@@ -25,7 +25,7 @@ use Rattle.types.specs.Lowering.{Limits, State, Out, andThen, finished, 
 use Rattle.types.specs.Events.{goOn}
 use Rattle.types.specs.Resolved.{Names}
 use Rattle.types.specs.Step.{Step, Resolved, overOne, overTwo, poison}
-use Rattle.types.specs.Resolve.{TypeExpr, plain, name, qualified, generic, one, two, typeExpr, findHead, Substitution, Resolver, resolveBy}
+use Rattle.types.specs.Resolve.{TypeExpr, name, generic, one, two, typeExpr, findHead, Substitution, Resolver, resolveBy}
 use Rattle.types.specs.Resolve.{isParameter, resolveTypeExpr, resolveTypeExprWithSubstitution}
 use Rattle.types.specs.Standing.{Lent, Held, usedLimits, stopOf, From, Ends, ends, refuses, Reads, Resolves, Stands}
 use Rattle.types.specs.Steps.{IsType, IsLeaf, substitution, leafStep, Follows, FollowsTwo}

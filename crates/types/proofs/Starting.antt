@@ -1,13 +1,11 @@
 -- Where a lowering starts: nothing is written, the declarations are numbered, and no alias is lowered.
 -- Assumes nothing.
-use Prim.Native.Nat.{ℕ, _+_, _-_, _*_, _≤_, _<_}
-use mathlib.Core.Bool.{Bool, false}
+use Prim.Native.Nat.{ℕ, _-_}
+use mathlib.Core.Bool.{Bool}
 use mathlib.Core.List.{List, [], flatMap}
-use mathlib.Core.Option.{none}
-use mathlib.Core.Path.{_≡_, refl, sym, ap, _∙_}
+use mathlib.Core.Path.{_≡_, refl, sym, ap}
 use native.Mathlib.Omega.{arith}
-use lib.ListN.{length, take, drop, getD, replicate, length-replicate, getD-replicate}
-use Rattle.record.specs.Layout.{encodeRecord}
+use lib.ListN.{take, replicate, length-replicate, getD-replicate}
 use Rattle.record.specs.Write.{withRecords}
 use Rattle.book.specs.Lists.{find}
 use Rattle.book.specs.Outline.{read}
@@ -17,7 +15,7 @@ use Rattle.types.specs.Lowering.{start}
 use Rattle.types.specs.Resolved.{POISON, entry, aliasOf}
 use Rattle.types.specs.Numbers.{registerDeclarations}
 use Rattle.types.specs.Registered.{Registered}
-use Rattle.types.specs.Standing.{Lent, held, pairsFrom, AliasIs, From}
+use Rattle.types.specs.Standing.{held, pairsFrom, AliasIs, From}
 
 -- the counters where nothing is written
 abbrev pub startCtx : Scope → LowerCtx

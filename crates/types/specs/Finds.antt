@@ -17,7 +17,6 @@ use Rattle.types.specs.declared.find.Head as heads
 use Rattle.types.specs.declared.find.Head.the-variants as head
 use Rattle.types.specs.Lowering.{State}
 use Rattle.types.specs.Resolved.{ResolvedType, Names, named}
-use Rattle.types.specs.Numbers.{Generic}
 use Rattle.types.specs.Resolve.{Found, type, stub, unresolved, Head, alias, noAlias, noNumber}
 use Rattle.types.specs.Records.{StandsAt}
 use Rattle.types.specs.Standing.{Lent, Held, held, Reads, From}

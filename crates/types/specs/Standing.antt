@@ -12,7 +12,7 @@ use Rattle.record.specs.declared.Record.{Record}
 use Rattle.record.specs.Layout.{Within}
 use Rattle.record.specs.Write.{roomFor, withRecords}
 use Rattle.book.specs.Lists.{All}
-use Rattle.book.specs.Blocks.{recordCount, wildcards}
+use Rattle.book.specs.Blocks.{wildcards}
 use Rattle.book.specs.Outline.{read}
 use Rattle.book.specs.Trees.{Readable}
 use Rattle.types.specs.declared.LowerCtx.{LowerCtx}

@@ -13,7 +13,7 @@ use Rattle.book.specs.Outline.{Book}
 use Rattle.book.specs.Trees.{Readable}
 use Rattle.types.specs.declared.Scope.{Scope}
 use Rattle.types.specs.declared.Resolved as answers
-use Rattle.types.specs.Lowering.{State, Out, run}
+use Rattle.types.specs.Lowering.{Out, run}
 use Rattle.types.specs.Events.{goOn}
 use Rattle.types.specs.Resolved.{Names, named, withStub, withPair}
 use Rattle.types.specs.Step.{Step, Resolved, bare, whole, overTwo}

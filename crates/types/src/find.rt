@@ -14,7 +14,7 @@ ghost use Rattle.book.specs.Outline.{read};
 ghost use Rattle.types.specs.declared.LowerCtx.{LowerCtx};
 ghost use Rattle.types.specs.Resolved.{ResolvedType, POISON, asNumber, lookup, pairNumber};
 ghost use Rattle.types.specs.Resolve.{findName, findHead};
-ghost use Rattle.types.specs.Standing.{IsResult, AliasIs, Reads, Stands, held};
+ghost use Rattle.types.specs.Standing.{IsResult, AliasIs, Reads, held};
 ghost use Rattle.types.specs.Finds.{numberOf, knownOr, Numbered, Finds, headOf, Sees};
 ghost use Rattle.types.specs.declared.Scope.{Scope};
 ghost use mathlib.Core.Bool.{Bool};
