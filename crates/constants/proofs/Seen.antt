@@ -1,8 +1,8 @@
 -- Names that are looked at one after the other: whether one comes again, and which carry the stamp then.
 -- Assumes nothing.
 use Prim.Native.Nat.{ℕ, _≤_, _<_}
-use mathlib.Core.Bool.{Bool, true, false, cond, _||_, or-assoc}
-use mathlib.Core.List.{List, [], _∷_, _++_}
+use mathlib.Core.Bool.{Bool, true, false, _||_, or-assoc}
+use mathlib.Core.List.{List, [], _∷_, _++_, append-assoc}
 use mathlib.Core.Path.{_≡_, refl, sym, ap, _∙_, subst}
 use native.Mathlib.Decide.{ℕ-discrete}
 use native.Mathlib.Omega.{arith}
@@ -11,6 +11,7 @@ use lib.ListN.{length, getD, set, length-set}
 use lib.Seq.{getD-set-same, getD-set-other}
 use borrow.Author.Tests.{eq-eqb, ne-eqb}
 use Rattle.book.specs.Lists.{any, keep}
+use Rattle.book.proofs.Places.{keep-append}
 use Rattle.constants.specs.Order.{has, repeats}
 use Rattle.constants.specs.Tables.{Seen, Looked}
 
@@ -51,15 +52,7 @@ module _ {stamp : ℕ} {ns seen : List ℕ} (s : Seen stamp ns seen) where
 -- two parts of what is kept, with what stands behind
 keep-behind :
     {A : Type 0} (test : A → Bool) (l r ns : List A) → keep test (l ++ r) ++ ns ≡ keep test l ++ (keep test r ++ ns)
-unfolding keep
-keep-behind test [] r ns = refl
-keep-behind {A} test (x ∷ l) r ns = go (test x) (keep-behind test l r ns)
-  where
-    go :
-        (b : Bool) → keep test (l ++ r) ++ ns ≡ keep test l ++ (keep test r ++ ns) →
-        cond b (x ∷ keep test (l ++ r)) (keep test (l ++ r)) ++ ns ≡ cond b (x ∷ keep test l) (keep test l) ++ (keep test r ++ ns)
-    go true e = ap (λ t. x ∷ t) e
-    go false e = e
+keep-behind test l r ns = ap (λ t. t ++ ns) (keep-append test l r) ∙ append-assoc (keep test l) (keep test r) ns
 
 -- names on the right are looked at, and then those on the left
 pub looked-both :
