@@ -18,13 +18,13 @@ use Rattle.book.specs.First.{IsFirst}
 use Rattle.book.specs.Outline.{read}
 use Rattle.book.proofs.First.{same, refused-by-the-first, passed-by-all}
 use Rattle.constants.specs.OfBook.{settled}
-use Rattle.types.specs.Lowering.{Limits, State, start, Stop, tooDeep, full, stopNumber, Out, finished, stopped, run}
+use Rattle.types.specs.Lowering.{Limits, State, start, Stop, tooDeep, full, stopNumber, Out, finished, stopped, run, usedLimits}
 use Rattle.types.specs.Resolved.{Names}
 use Rattle.types.specs.Events.{written, told, placeAfter, behind, StopsAt, Fits}
 use Rattle.types.proofs.Events.{stopped-by-the-first, finished-if-all-fit, fits-nothing, fits-within}
 use Rattle.types.specs.Step.{isStored}
 use Rattle.bodies.specs.Constant.{storedCount}
-use Rattle.lower.specs.LowerBook.{Reply, accepted, refused, Lowered, lowerBook, lowerRead, lowerRecords, usedLimits, ended}
+use Rattle.lower.specs.LowerBook.{Reply, accepted, refused, Lowered, lowerBook, lowerRead, lowerRecords, ended}
 use Rattle.lower.specs.Laws.{firstRecords, Leaves, SlicesAreLeft}
 use Rattle.lower.proofs.Written.{written-within, stored-are-counted}
 use Rattle.lower.proofs.Slices.{room-in-bytes, records-kept, is-cleared, read-back}
@@ -234,7 +234,7 @@ module _ (book results diagnostics : List ℕ) where
       results
       diagnostics
       (stopped c p))
-  unfolding Leaves ended usedLimits
+  unfolding Leaves ended
   left-stopped c p =
       let r : 24 * roomFor 2048 results ≤ length results = room-in-bytes 2048 results (roomFor 2048 results) (omega arith) in
       let d : 24 * roomFor 256 diagnostics ≤ length diagnostics = room-in-bytes 256 diagnostics (roomFor 256 diagnostics) (omega arith) in (
@@ -252,7 +252,7 @@ module _ (book results diagnostics : List ℕ) where
       (a : Unit × Names) (s : State) →
       run (usedLimits results diagnostics) (lowerRecords (settled (read book)) (read book)) start ≡ finished a s →
       Left (ended (storedCount (settled (read book))) (usedLimits results diagnostics) results diagnostics (finished a s))
-  unfolding Leaves ended usedLimits
+  unfolding Leaves ended
   left-accepted bytes e a s h =
       let fit = ends-if (usedLimits results diagnostics) book a s h in
       let in-limits = fits-within (usedLimits results diagnostics) (doings book) (fit .0) in

@@ -16,10 +16,10 @@ use Rattle.book.specs.Refusal.{Refusal, number}
 use Rattle.book.specs.First.{IsFirst, Holds, hasPlace}
 use Rattle.book.specs.Outline.{read}
 use Rattle.constants.specs.OfBook.{settled}
-use Rattle.types.specs.Lowering.{Stop, stopNumber}
+use Rattle.types.specs.Lowering.{Stop, stopNumber, usedLimits}
 use Rattle.types.specs.Step.{isStored}
 use Rattle.types.specs.Events.{Event, events, written, told, StopsAt, Fits}
-use Rattle.lower.specs.LowerBook.{Reply, accepted, refused, Lowered, lowerBook, lowerRecords, usedLimits}
+use Rattle.lower.specs.LowerBook.{Reply, accepted, refused, Lowered, lowerBook, lowerRecords}
 
 -- a slice as it was from byte n on, and as long as it was
 pub record KeptFrom (n : ℕ) (lent left : List ℕ) : Type 0 where

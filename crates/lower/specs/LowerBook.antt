@@ -5,12 +5,12 @@ use Prim.Native.Nat.{ℕ}
 use mathlib.Core.List.{List}
 use mathlib.Core.Option.{some, none}
 use lib.ListN.{length}
-use Rattle.record.specs.Write.{roomFor, withRecords, cleared}
+use Rattle.record.specs.Write.{withRecords, cleared}
 use Rattle.book.specs.Refusal.{number, firstRefusal}
 use Rattle.book.specs.Outline.{Book, read}
 use Rattle.constants.specs.Order.{Settled}
 use Rattle.constants.specs.OfBook.{settled}
-use Rattle.types.specs.Lowering.{Lowering, Limits, Out, start, finished, stopped, stopNumber, run}
+use Rattle.types.specs.Lowering.{Lowering, Limits, Out, start, finished, stopped, stopNumber, run, usedLimits}
 use Rattle.types.specs.Resolved.{Names}
 use Rattle.types.specs.Step.{_>>_, forEach}
 use Rattle.types.specs.Numbers.{plainAliases, registerDeclarations}
@@ -37,12 +37,6 @@ pub record Lowered : Type 0 where
   pub reply : Reply
   pub results : List ℕ
   pub diagnostics : List ℕ
-
--- "Used limits: result 49,152 bytes and 2,048 records, diagnostics 6,144 bytes and 256 records, or as many whole records as a shorter slice
--- holds"
-unfoldable pub usedLimits : List ℕ → List ℕ → Limits
-usedLimits results diagnostics =
-    record { results = roomFor 2048 results; diagnostics = roomFor 256 diagnostics }
 
 -- how a lowering under limits leaves the slices: accepted, or refused by 9 or 10
 unfoldable pub ended : {A : Type 0} → ℕ → Limits → List ℕ → List ℕ → Out A → Lowered

@@ -8,9 +8,9 @@ use lib.ListN.{length}
 use Rattle.book.specs.Outline.{read}
 use Rattle.book.specs.Refusal.{Refusal, number, firstRefusal}
 use Rattle.constants.specs.OfBook.{settled}
-use Rattle.types.specs.Lowering.{Limits, start, run}
+use Rattle.types.specs.Lowering.{Limits, start, run, usedLimits}
 use Rattle.bodies.specs.Constant.{storedCount}
-use Rattle.lower.specs.LowerBook.{Lowered, refused, lowerRecords, usedLimits, ended, lowerRead, lowerBook}
+use Rattle.lower.specs.LowerBook.{Lowered, refused, lowerRecords, ended, lowerRead, lowerBook}
 
 -- number and place of a refusal
 abbrev pub placed : Option Refusal → Option (ℕ × ℕ)
@@ -62,7 +62,6 @@ lowerIn most book results diagnostics =
 
 module _ (results diagnostics : List ℕ) (m n : ℕ) (r : length results ≡ m) (d : length diagnostics ≡ n) where
   limits-are : usedLimits results diagnostics ≡ limits m n
-  unfolding usedLimits
   limits-are = rw (r, d)
 
   pub lower-in : (book : List ℕ) → lowerBook book results diagnostics ≡ lowerIn (limits m n) book results diagnostics

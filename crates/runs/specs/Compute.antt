@@ -36,7 +36,7 @@ use Rattle.bodies.specs.Constant.{tellUnless, constantRecord, lowerConstant, lo
 use Rattle.bodies.specs.Bodies.{unlessNone, lowerField, firstString, lowerTombstone, lowerVariant, lowerItem, lowerMessage}
 use Rattle.bodies.specs.Bodies.{lowerUnion, lowerNewtype, lowerDecl, lowerBodies}
 use Rattle.record.specs.Write.{withRecords, cleared}
-use Rattle.lower.specs.LowerBook.{lowerRecords, usedLimits, ended, lowerRead, lowerBook}
+use Rattle.lower.specs.LowerBook.{lowerRecords, ended, lowerRead, lowerBook}
 use Rattle.lower.specs.LowerBook.{Lowered}
 use Rattle.runs.specs.Books.{blockBytes, withCheck, blocksFrom}
 
@@ -55,5 +55,5 @@ unfolding flatMap blockBytes withCheck blocksFrom littleEndian littleBytes decod
     resolveTypeExprWithSubstitution lowerAlias limitIn computeFieldEncoding deltaRows deltaInner underDelta
     encodingNumber encodingRecord whereExpr lowerWhereBy lowerWhereExpr tellUnless constantRecord lowerConstant
     lowerConstants storedCount unlessNone lowerField firstString lowerTombstone lowerVariant lowerItem lowerMessage
-    lowerUnion lowerNewtype lowerDecl lowerBodies lowerRecords usedLimits withRecords cleared ended lowerRead lowerBook
+    lowerUnion lowerNewtype lowerDecl lowerBodies lowerRecords withRecords cleared ended lowerRead lowerBook
 computed = lowerBook

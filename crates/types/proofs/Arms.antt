@@ -21,13 +21,13 @@ use Rattle.types.specs.declared.Resolved as answers
 use Rattle.types.specs.declared.Resolved.the-variants.{Root, Stopped}
 use Rattle.types.specs.declared.find.Head as heads
 use Rattle.types.specs.declared.find.Head.the-variants.{Alias, NoAlias, NoNumber}
-use Rattle.types.specs.Lowering.{Limits, State, Out, andThen, finished, stopped, run, tooDeep}
+use Rattle.types.specs.Lowering.{Limits, State, Out, andThen, finished, stopped, run, tooDeep, usedLimits}
 use Rattle.types.specs.Events.{goOn}
 use Rattle.types.specs.Resolved.{Names}
 use Rattle.types.specs.Step.{Step, Resolved, overOne, overTwo, poison}
 use Rattle.types.specs.Resolve.{TypeExpr, name, generic, one, two, typeExpr, findHead, Substitution, Resolver, resolveBy}
 use Rattle.types.specs.Resolve.{isParameter, resolveTypeExpr, resolveTypeExprWithSubstitution}
-use Rattle.types.specs.Standing.{Lent, Held, usedLimits, stopOf, From, Ends, ends, refuses, Reads, Resolves, Stands}
+use Rattle.types.specs.Standing.{Lent, Held, stopOf, From, Ends, ends, refuses, Reads, Resolves, Stands}
 use Rattle.types.specs.Steps.{IsType, IsLeaf, substitution, leafStep, Follows, FollowsTwo}
 use Rattle.types.specs.Finds.{headOf, Sees, Numbered, StandsSo}
 use Rattle.book.proofs.Lists.{either}

@@ -23,11 +23,11 @@ use Rattle.types.specs.declared.Stop as stops
 use Rattle.types.specs.declared.Stop.the-variants.{Full}
 use Rattle.types.specs.declared.Resolved as answers
 use Rattle.types.specs.declared.Resolved.the-variants.{Root, Stopped}
-use Rattle.types.specs.Lowering.{Lowering, done, diagnostic, result, andThen, Limits, State, withResult, withDiagnostic, run}
+use Rattle.types.specs.Lowering.{Lowering, done, diagnostic, result, andThen, Limits, State, withResult, withDiagnostic, run, usedLimits}
 use Rattle.types.specs.Resolved.{ResolvedType, primitive, subByte, semantic, named, oneChild, twoChildren, inlineBits, Names, POISON}
 use Rattle.types.specs.Step.{Resolved, bare, message, emitType, whole, overOne, overTwo, poison}
 use Rattle.types.specs.Records.{below, StandsAt}
-use Rattle.types.specs.Standing.{stopOf, Lent, usedLimits, oneMore, oneTold, emitted, IsResult, Held, held, AliasIs, From, Left, Ends, ends, refuses}
+use Rattle.types.specs.Standing.{stopOf, Lent, oneMore, oneTold, emitted, IsResult, Held, held, AliasIs, From, Left, Ends, ends, refuses}
 use Rattle.types.proofs.Run.{tell-on, tell-out, write-on, write-out}
 
 -- what stands among the results stands there when more come

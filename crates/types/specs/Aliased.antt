@@ -16,13 +16,13 @@ use Rattle.types.specs.declared.Lowered as done
 use Rattle.types.specs.declared.Lowered.the-variants.{Done, Stopped}
 use Rattle.types.specs.declared.Aliases as all
 use Rattle.types.specs.declared.Aliases.the-variants.{Lowered, Refused}
-use Rattle.types.specs.Lowering.{State, Stop, Out, finished, stopped, run}
+use Rattle.types.specs.Lowering.{State, Stop, Out, finished, stopped, run, usedLimits}
 use Rattle.types.specs.Resolved.{Names, POISON, withAlias}
 use Rattle.types.specs.Step.{Step, Resolved, _>>_, emit, change, forEach}
 use Rattle.types.specs.Numbers.{plainAliases}
 use Rattle.types.specs.Alias.{lowerAlias}
 use Rattle.types.specs.Records.{StandsAt}
-use Rattle.types.specs.Standing.{stopOf, usedLimits, Lent, Held, From, Left}
+use Rattle.types.specs.Standing.{stopOf, Lent, Held, From, Left}
 
 -- the result record of a plain alias
 abbrev pub aliasRecord : Record → ℕ → Record

@@ -6,6 +6,7 @@ use mathlib.Core.List.{List, [], _∷_, _++_}
 use lib.Dec.{ltb}
 use lib.ListN.{length}
 use Rattle.record.specs.declared.Record.{Record}
+use Rattle.record.specs.Write.{roomFor}
 
 -- A lowering that gives an A, with no word on limits.
 pub data Lowering (A : Type 0) : Type 0 where
@@ -31,6 +32,11 @@ andThen (result r k) f = result r (λ n. andThen (k n) f)
 pub record Limits : Type 0 where
   pub results : ℕ
   pub diagnostics : ℕ
+
+-- "Used limits: result 49,152 bytes and 2,048 records, diagnostics 6,144 bytes and 256 records, or as many whole records as a shorter slice
+-- holds"
+abbrev pub usedLimits : List ℕ → List ℕ → Limits
+usedLimits results diagnostics = record { results = roomFor 2048 results; diagnostics = roomFor 256 diagnostics }
 
 -- what is written so far, and the declaration or item being lowered
 pub record State : Type 0 where

@@ -21,7 +21,7 @@ use Rattle.types.specs.declared.Stop as stops
 use Rattle.types.specs.declared.Stop.the-variants.{TooDeep, Full}
 use Rattle.types.specs.declared.Resolved as answers
 use Rattle.types.specs.declared.Resolved.the-variants.{Root, Stopped}
-use Rattle.types.specs.Lowering.{Limits, State, Stop, tooDeep, full, Out, finished, stopped, run}
+use Rattle.types.specs.Lowering.{usedLimits, State, Stop, tooDeep, full, Out, finished, stopped, run}
 use Rattle.types.specs.Resolved.{ResolvedType, Names, POISON, ownNumber, aliasOf}
 use Rattle.types.specs.Step.{Step, Resolved}
 use Rattle.types.specs.Numbers.{Generic, typeDeclarations, genericAliases, genericAt}
@@ -37,10 +37,6 @@ stopOf Full = full
 pub record Lent : Type 0 where
   pub results : List ℕ
   pub diagnostics : List ℕ
-
--- "Used limits: result [..] 2,048 records, diagnostics [..] 256 records, or as many whole records as a shorter slice holds"
-abbrev pub usedLimits : List ℕ → List ℕ → Limits
-usedLimits results diagnostics = record { results = roomFor 2048 results; diagnostics = roomFor 256 diagnostics }
 
 -- counters with one result more
 abbrev pub oneMore : LowerCtx → LowerCtx

@@ -13,13 +13,13 @@ use Rattle.book.specs.Outline.{Book}
 use Rattle.book.specs.Trees.{Readable}
 use Rattle.types.specs.declared.Scope.{Scope}
 use Rattle.types.specs.declared.Resolved as answers
-use Rattle.types.specs.Lowering.{Out, run}
+use Rattle.types.specs.Lowering.{Out, run, usedLimits}
 use Rattle.types.specs.Events.{goOn}
 use Rattle.types.specs.Resolved.{Names, named, withStub, withPair}
 use Rattle.types.specs.Step.{Step, Resolved, bare, whole, overTwo}
 use Rattle.types.specs.Resolve.{TypeExpr, plain, name, qualified, generic, one, two, beyond}
 use Rattle.types.specs.Resolve.{Substitution, resolveName, resolveQualified}
-use Rattle.types.specs.Standing.{Lent, Held, usedLimits, Ends}
+use Rattle.types.specs.Standing.{Lent, Held, Ends}
 
 -- record n of a readable book is a type
 pub record IsType (bytes : List ℕ) (n : ℕ) : Type 0 where

@@ -9,7 +9,8 @@ use denote.Ref.{now}
 use native.Mathlib.Omega.{arith}
 use Rattle.book.specs.Outline.{read}
 use Rattle.types.specs.Resolve.{resolveTypeExpr, resolveTypeExprWithSubstitution}
-use Rattle.types.specs.Standing.{held, usedLimits, Reads}
+use Rattle.types.specs.Lowering.{usedLimits}
+use Rattle.types.specs.Standing.{held, Reads}
 use Rattle.types.specs.Steps.{IsType, IsLeaf, substitution}
 use borrow.Author.Tests.{eqb-true}
 use Rattle.book.proofs.Trees.{both-so}
