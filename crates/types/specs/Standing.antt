@@ -71,7 +71,7 @@ abbrev pub held : List ℕ → List ℕ → List ℕ → List ℕ → Held
 held numbers pairs results diagnostics =
     record { numbers = numbers; pairs = pairs; results = results; diagnostics = diagnostics }
 
--- a generic alias as one number, and a plain one by its first record and its root
+-- a generic alias as one number: its target, and 65,536 times its first parameter
 abbrev pub genericWord : Generic → ℕ
 genericWord g = g .target + 65536 * g .parameter
 
