@@ -3,4 +3,5 @@ mod Tallies
 mod Backs
 mod Settled
 mod Standing
+mod Ends
 mod Examples

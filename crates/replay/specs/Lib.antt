@@ -5,5 +5,6 @@ pub mod Agree
 pub mod Checks
 pub mod Reading
 pub mod Constants
+pub mod Aliases
 pub mod Outcome
 pub mod Totals

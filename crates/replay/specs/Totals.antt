@@ -15,6 +15,7 @@ counted t accepted o =
       refused = t .refused + bit (not accepted);
       read = t .read + bit (o .read);
       constants = t .constants + bit (o .constants);
+      aliases = t .aliases + bit (o .aliases);
       blocks = t .blocks + o .blocks;
       records = t .records + o .records;
       wrong = t .wrong + bit (not (o .right));
@@ -26,6 +27,7 @@ pub record Within (t : Totals) : Type 0 where
   pub refused : t .refused ≤ t .answers
   pub read : t .read ≤ t .answers
   pub constants : t .constants ≤ t .answers
+  pub aliases : t .aliases ≤ t .answers
   pub blocks : t .blocks ≤ 65535 * t .answers
   pub records : t .records ≤ 65535 * t .answers
   pub wrong : t .wrong ≤ t .answers

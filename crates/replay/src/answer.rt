@@ -4,18 +4,20 @@ ghost use mathlib.Core.Path.{_≡_};
 ghost use Prim.Native.Nat.{_≤_};
 ghost use Rattle.replay.specs.Outcome.{complete, formed, checked, outcome};
 use crate::agree;
+use crate::aliases;
 use crate::checks;
 use crate::layout::Header;
 use crate::reading;
 use crate::values;
 
 // What is found of an answer: whether it is right, whether its book reads as the reply says, whether it is accepted and
-// its constants stand among the results, how many blocks have the check that they should have or not have, and how
-// many records are read back.
+// its constants stand among the results, whether its plain aliases are lowered as it says, how many blocks have the
+// check that they should have or not have, and how many records are read back.
 pub struct Outcome {
     pub right: bool,
     pub read: bool,
     pub constants: bool,
+    pub aliases: bool,
     pub blocks: u16,
     pub records: u16,
 }
@@ -38,11 +40,11 @@ fn is_formed(h: Header, book: usize, results: usize, diagnostics: usize) -> bool
         & is_complete(h, book, results, diagnostics)
 }
 
-// Whether its book reads as the reply says, and its constants stand; the checks of the book's first n blocks and of
-// their records.
-fn check_book(h: Header, book: &[u8], results: &[u8], n: u16) -> Outcome
+// Whether its book reads as the reply says, and its constants and plain aliases stand; the checks of the book's first n
+// blocks and of their records.
+fn check_book(h: Header, book: &[u8], results: &[u8], diagnostics: &[u8], n: u16) -> Outcome
     requires { ⌜ n ≤ 64 ⌝ }
-    ensures { λ r. ⌜ r ≡ checked h (now (book .entry)) (now (results .entry)) n ⌝ }
+    ensures { λ r. ⌜ r ≡ checked h (now (book .entry)) (now (results .entry)) (now (diagnostics .entry)) n ⌝ }
 {
     let holding = checks::count_holding(book, n);
     let fails = checks::block_fails(h.cause, book, n);
@@ -50,14 +52,17 @@ fn check_book(h: Header, book: &[u8], results: &[u8], n: u16) -> Outcome
     let reading = book::read_book(book);
     let read = reading::reading_agrees(h, reading);
     let constants = values::constants_agree(h, book, results, reading);
+    let aliases = aliases::aliases_agree(h, book, results, diagnostics, reading);
     Outcome {
         right: read
             & ((h.cause != 0) | constants)
+            & ((0 < h.cause) & (h.cause < 9) | aliases)
             & (holding == n)
             & ((h.cause != 2) | fails)
             & (back == 21 * n),
         read,
         constants,
+        aliases,
         blocks: holding + fails as u16,
         records: back,
     }
@@ -70,11 +75,12 @@ pub(crate) fn replay_answer(h: Header, book: &[u8], results: &[u8], diagnostics:
 {
     let formed = is_formed(h, book.len(), results.len(), diagnostics.len());
     let n = checks::must_hold(h.cause, h.place, agree::block_count(book.len()));
-    let found = check_book(h, book, results, n);
+    let found = check_book(h, book, results, diagnostics, n);
     Outcome {
         right: formed & found.right,
         read: found.read,
         constants: found.constants,
+        aliases: found.aliases,
         blocks: found.blocks,
         records: found.records,
     }

@@ -1,7 +1,8 @@
-// Reads a list of answers on standard input, checks the form of each and what the crates `record`, `book` and
-// `constants` can tell of its book, and prints the totals.
+// Reads a list of answers on standard input, checks the form of each and what the crates `record`, `book`, `constants`
+// and `types` can tell of its book, and prints the totals.
 
 mod agree;
+mod aliases;
 mod answer;
 mod bytes;
 mod checks;
@@ -127,6 +128,7 @@ fn print_totals(t: Totals) {
     print_line(b"refused ", t.refused);
     print_line(b"read ", t.read);
     print_line(b"constants ", t.constants);
+    print_line(b"aliases ", t.aliases);
     print_line(b"blocks ", t.blocks);
     print_line(b"records ", t.records);
     print_line(b"wrong ", t.wrong);

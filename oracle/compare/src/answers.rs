@@ -200,6 +200,7 @@ fn list() -> (Vec<u8>, String, Vec<Answer>) {
     out.extend([0; 4]);
     answers.iter().for_each(|a| a.write(&mut out));
     let accepted = answers.iter().filter(|a| matches!(a.reply, Reply::Accepted { .. })).count();
+    let aliases = answers.iter().filter(|a| !matches!(a.reply, Reply::Refused { number: 1..=8, .. })).count();
     let (mut blocks, mut records) = (0, 0);
     for (b, r) in answers.iter().map(Answer::looked_at) {
         blocks += b;
@@ -207,7 +208,7 @@ fn list() -> (Vec<u8>, String, Vec<Answer>) {
     }
     let n = answers.len();
     let says = format!(
-        "answers {n}\naccepted {accepted}\nrefused {}\nread {n}\nconstants {accepted}\nblocks {blocks}\nrecords {records}\nwrong 0\n",
+        "answers {n}\naccepted {accepted}\nrefused {}\nread {n}\nconstants {accepted}\naliases {aliases}\nblocks {blocks}\nrecords {records}\nwrong 0\n",
         n - accepted
     );
     (out, says, answers)

@@ -7,16 +7,24 @@ use Rattle.replay.proofs.Tallies.{bit-small}
 use Rattle.replay.proofs.answer.check_book.Statement.{statement}
 use Rattle.replay.proofs.answer.check_book.Tie as tie
 
-add-t23 : tie.Need-add-t23
-add-t23 c = omega (arith, bit-small (c .before .before .before .before .before .before .block-fails .result))
+mul-t13 : tie.Need-mul-t13
+mul-t13 c =
+    let b = c .before .before .before .before .before .before .before .before .before in
+    omega (arith, b .before .before .before .before .before .pre)
+
+add-t30 : tie.Need-add-t30
+add-t30 c =
+    let b = c .before .before .before .before .before .before .before .before .before in
+    omega (arith, b .before .count-holding .ensures .1, b .before .before .before .before .before .pre, bit-small (b .block-fails .result))
 
 returns : tie.Need-returns
 unfolding checked
 returns c =
-    let r = c .before .before .before .before in
+    let l = c .before .before .before .before in
+    let r = l .before .before .before in
     let b = r .before .before in
     rw (b .before .count-holding .ensures .0, b .block-fails .ensures, r .before .count-back .ensures .0)
-    (rw (c .before .before .before .reading-agrees .ensures, c .before .before .constants-agree .ensures, r .read-book .ensures))
+    (rw (l .before .before .reading-agrees .ensures, l .before .constants-agree .ensures, l .aliases-agree .ensures, r .read-book .ensures))
 
 pub check-book-spec : {M : Type 1} → statement M
 check-book-spec =
@@ -29,7 +37,8 @@ check-book-spec =
     (λ c κs. search needs)
     (λ c κs. search needs)
     (λ c κs. search needs)
+    (λ c κs. search needs)
+    mul-t13
     (λ c. search needs)
-    (λ c. search needs)
-    add-t23
+    add-t30
     returns)

@@ -20,18 +20,27 @@ add-t11 c = omega (arith, bit-small (c .before .before .before .before .before .
 add-t13 : tie.Need-add-t13
 add-t13 c = omega (arith, bit-small (c .before .before .before .before .before .before .before .args .o .constants))
 
-add-t20 : tie.Need-add-t20
-add-t20 c =
+add-t15 : tie.Need-add-t15
+add-t15 c = omega (arith, bit-small (c .before .before .before .before .before .before .before .before .before .args .o .aliases))
+
+add-t19 : tie.Need-add-t19
+add-t19 c =
     let s = c .before .before .before .before .before .before .before .before .before .before .before .before .before in
+    omega (arith, s .pre .0, s .pre .1 .records)
+
+add-t22 : tie.Need-add-t22
+add-t22 c =
+    let s = c .before .before .before .before .before .before .before .before .before .before .before .before .before .before .before in
     omega (arith, s .pre .0, s .pre .1 .wrong, bit-small (not (s .args .o .right)))
 
 returns : tie.Need-returns
 returns c =
-    let s = c .before .before .before .before .before .before .before .before .before .before .before .before .before in
+    let s = c .before .before .before .before .before .before .before .before .before .before .before .before .before .before .before in
     let within = s .pre .1 in
     let accepted = s .args .accepted in
     let o = s .args .o in
-    (refl, omega (arith, bit-small accepted, bit-small (not accepted), bit-small (o .read), bit-small (o .constants), bit-small (not (o .right))))
+    let small = bit-small in
+    (refl, omega (arith, small accepted, small (not accepted), small (o .read), small (o .constants), small (o .aliases), small (not (o .right))))
 
 pub count-spec : {M : Type 1} → statement M
 count-spec =
@@ -47,9 +56,11 @@ count-spec =
     (λ c. search needs)
     add-t13
     (λ c. search needs)
+    add-t15
     (λ c. search needs)
     (λ c. search needs)
     (λ c. search needs)
+    add-t19
     (λ c. search needs)
-    add-t20
+    add-t22
     returns)
