@@ -9,6 +9,7 @@ use books::{Book, Rng};
 use model::Reply;
 use std::collections::{BTreeMap, BTreeSet};
 use std::fs;
+use std::io::{self, Cursor, Seek, SeekFrom, Write};
 
 const MAGIC: &[u8; 8] = b"answers\n";
 const HEADER: usize = 64;
@@ -16,27 +17,28 @@ const HEADER: usize = 64;
 /// One answer: a book, the lengths of the slices, the reply, and the bytes written at the front of each slice if the
 /// book is accepted.
 #[derive(PartialEq, Eq)]
-struct Answer {
-    name: String,
-    book: Vec<u8>,
-    lent: (usize, usize),
-    reply: Reply,
-    written: (Vec<u8>, Vec<u8>),
+pub struct Answer {
+    pub name: String,
+    pub book: Vec<u8>,
+    pub lent: (usize, usize),
+    pub reply: Reply,
+    pub written: (Vec<u8>, Vec<u8>),
 }
 
 /// Lowers a book with the model, once everything agrees on it.
-fn answer(n: &Named) -> Answer {
-    let judged = judge(&n.bytes, n.lent.0, n.lent.1, None);
-    let outcome = judged.unwrap_or_else(|why| panic!("{}: {why}", n.name));
-    assert!(n.expected.is_none_or(|e| e == outcome.reply), "{}: {:?}", n.name, outcome.reply);
-    let run = judge::run(&n.bytes, n.lent.0, n.lent.1).expect("a run that was made before");
+pub fn answer(n: &Named) -> Result<Answer, String> {
+    let outcome = judge(&n.bytes, n.lent.0, n.lent.1, None)?;
+    if n.expected.is_some_and(|e| e != outcome.reply) {
+        return Err(format!("another reply than by hand: {:?}", outcome.reply));
+    }
+    let run = judge::run(&n.bytes, n.lent.0, n.lent.1)?;
     let written = match run.reply {
         Reply::Accepted { results, diagnostics, .. } => {
             (run.results[..24 * results as usize].to_vec(), run.diagnostics[..24 * diagnostics as usize].to_vec())
         }
         Reply::Refused { .. } => (Vec::new(), Vec::new()),
     };
-    Answer { name: n.name.clone(), book: n.bytes.clone(), lent: n.lent, reply: run.reply, written }
+    Ok(Answer { name: n.name.clone(), book: n.bytes.clone(), lent: n.lent, reply: run.reply, written })
 }
 
 impl Answer {
@@ -91,6 +93,75 @@ impl Answer {
             Reply::Refused { number: 3, place } => (place as usize + 1, 21 * (place as usize + 1)),
             _ => (blocks, 21 * blocks),
         }
+    }
+}
+
+/// The totals of a list whose answers are right.
+#[derive(Default)]
+pub struct Totals {
+    pub answers: usize,
+    pub accepted: usize,
+    /// accepted, or refused by 9 or 10
+    lowered: usize,
+    blocks: usize,
+    records: usize,
+}
+
+impl Totals {
+    fn count(&mut self, a: &Answer) {
+        let (blocks, records) = a.looked_at();
+        self.answers += 1;
+        self.accepted += matches!(a.reply, Reply::Accepted { .. }) as usize;
+        self.lowered += !matches!(a.reply, Reply::Refused { number: 1..=8, .. }) as usize;
+        self.blocks += blocks;
+        self.records += records;
+    }
+
+    /// What `replay` prints of the list.
+    pub fn says(&self) -> String {
+        let Totals { answers, accepted, lowered, blocks, records } = self;
+        let lines = [
+            ("answers", *answers),
+            ("accepted", *accepted),
+            ("refused", answers - accepted),
+            ("read", *answers),
+            ("constants", *accepted),
+            ("aliases", *lowered),
+            ("blocks", *blocks),
+            ("records", *records),
+            ("wrong", 0),
+        ];
+        lines.iter().map(|(word, n)| format!("{word} {n}\n")).collect()
+    }
+}
+
+/// A list in the making: its answers are written one behind the other, their number at the end.
+pub struct List<W> {
+    out: W,
+    totals: Totals,
+}
+
+impl<W: Write + Seek> List<W> {
+    pub fn new(mut out: W) -> io::Result<List<W>> {
+        out.write_all(MAGIC)?;
+        out.write_all(&[0; 8])?;
+        Ok(List { out, totals: Totals::default() })
+    }
+
+    /// One answer more.
+    pub fn add(&mut self, a: &Answer) -> io::Result<()> {
+        let mut bytes = Vec::new();
+        a.write(&mut bytes);
+        self.totals.count(a);
+        self.out.write_all(&bytes)
+    }
+
+    /// Writes the number of answers into the head.
+    pub fn end(mut self) -> io::Result<(W, Totals)> {
+        self.out.seek(SeekFrom::Start(8))?;
+        self.out.write_all(&(self.totals.answers as u32).to_le_bytes())?;
+        self.out.flush()?;
+        Ok((self.out, self.totals))
     }
 }
 
@@ -192,31 +263,18 @@ fn shows(book: &Book) -> Vec<(&'static str, u32, u32)> {
 }
 
 /// The list and what `replay` prints of it.
-fn list() -> (Vec<u8>, String, Vec<Answer>) {
-    let answers: Vec<Answer> = chosen().iter().map(answer).collect();
-    let mut out = Vec::new();
-    out.extend(MAGIC);
-    out.extend((answers.len() as u32).to_le_bytes());
-    out.extend([0; 4]);
-    answers.iter().for_each(|a| a.write(&mut out));
-    let accepted = answers.iter().filter(|a| matches!(a.reply, Reply::Accepted { .. })).count();
-    let aliases = answers.iter().filter(|a| !matches!(a.reply, Reply::Refused { number: 1..=8, .. })).count();
-    let (mut blocks, mut records) = (0, 0);
-    for (b, r) in answers.iter().map(Answer::looked_at) {
-        blocks += b;
-        records += r;
+fn list() -> io::Result<(Vec<u8>, String)> {
+    let mut list = List::new(Cursor::new(Vec::new()))?;
+    for n in chosen() {
+        list.add(&answer(&n).unwrap_or_else(|why| panic!("{}: {why}", n.name)))?;
     }
-    let n = answers.len();
-    let says = format!(
-        "answers {n}\naccepted {accepted}\nrefused {}\nread {n}\nconstants {accepted}\naliases {aliases}\nblocks {blocks}\nrecords {records}\nwrong 0\n",
-        n - accepted
-    );
-    (out, says, answers)
+    let (out, totals) = list.end()?;
+    Ok((out.into_inner(), totals.says()))
 }
 
 /// Makes both files.
 pub fn make(folder: &str) -> Result<String, String> {
-    let (bytes, says, _) = list();
+    let (bytes, says) = list().map_err(|e| e.to_string())?;
     let put = |name: &str, text: &[u8]| {
         fs::write(format!("{folder}/{name}"), text).map_err(|e| format!("{folder}/{name}: {e}"))
     };
@@ -227,7 +285,7 @@ pub fn make(folder: &str) -> Result<String, String> {
 
 /// Says whether both files are what `make` would write.
 pub fn check(folder: &str) -> Result<String, String> {
-    let (bytes, says, _) = list();
+    let (bytes, says) = list().map_err(|e| e.to_string())?;
     let same = |name: &str, text: &[u8]| match fs::read(format!("{folder}/{name}")) {
         Ok(old) if old == text => Ok(()),
         Ok(_) => Err(format!("{folder}/{name} is not what this command makes")),

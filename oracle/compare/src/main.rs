@@ -8,7 +8,9 @@ mod differences;
 mod judge;
 mod mutants;
 mod named;
+mod order;
 mod reading;
+mod replayed;
 mod results;
 mod rows;
 mod run;
@@ -85,6 +87,8 @@ fn main() {
         match first.as_str() {
             "answers" => on_answers(rest),
             "mutants" => std::process::exit(!mutants::run(rest) as i32),
+            "order" => std::process::exit(!order::print() as i32),
+            "replayed" => std::process::exit(!replayed::run(rest) as i32),
             #[cfg(feature = "proved")]
             "times" => return times::print(),
             _ => {}

@@ -83,12 +83,18 @@ fn around(bytes: &[u8], rng: &mut Rng) -> (usize, usize) {
     (near(results.max(1)), near(diagnostics.max(1)))
 }
 
-/// Readable book number n.
-fn readable(seed: u64, n: u64, tally: &mut Tally) {
+/// Readable book number n, and the lengths that it is lent.
+pub fn readable_book(seed: u64, n: u64) -> (Book, (usize, usize)) {
     let mut rng = generator(seed, 1, n);
     let book = books::readable(&mut rng);
+    let lent = if rng.chance(2) { around(&book.bytes(), &mut rng) } else { books::lengths(&mut rng) };
+    (book, lent)
+}
+
+/// Judges readable book number n.
+fn readable(seed: u64, n: u64, tally: &mut Tally) {
+    let (book, lent) = readable_book(seed, n);
     let bytes = book.bytes();
-    let lent = if rng.chance(2) { around(&bytes, &mut rng) } else { books::lengths(&mut rng) };
     tally.generated += 1;
     match judge(&bytes, lent.0, lent.1, None) {
         Ok(outcome) => {
@@ -128,23 +134,24 @@ fn named_books(tally: &mut Tally) {
     }
 }
 
-/// Shares some numbers out to two threads, each with a stack that holds the deepest trees.
-fn share(numbers: Range<u64>, all: &mut Tally, of: impl Fn(u64, &mut Tally) + Sync) {
+/// Shares some numbers out to two threads, each with a stack that holds the deepest trees: what comes of the even ones,
+/// and of the odd.
+pub fn share<T: Default + Send>(numbers: Range<u64>, of: impl Fn(u64, &mut T) + Sync) -> [T; 2] {
     let (of, numbers) = (&of, &numbers);
     let half = move |odd: u64| {
-        let mut tally = Tally::default();
-        numbers.clone().filter(|n| n % 2 == odd).for_each(|n| of(n, &mut tally));
-        tally
+        let mut sum = T::default();
+        numbers.clone().filter(|n| n % 2 == odd).for_each(|n| of(n, &mut sum));
+        sum
     };
     std::thread::scope(|s| {
         let start = |odd| std::thread::Builder::new().stack_size(256 << 20).spawn_scoped(s, move || half(odd));
         let started = [0, 1].map(|odd| start(odd).expect("a thread"));
-        started.into_iter().for_each(|t| all.merge(t.join().expect("a thread that ends")));
-    });
+        started.map(|t| t.join().expect("a thread that ends"))
+    })
 }
 
 /// How many readable books are made before it is asked whether that is enough.
-const ROUND: u64 = 500;
+pub const ROUND: u64 = 500;
 
 /// Books with names, readable ones until enough accepted ones have been compared with the Rust, and damaged ones. The
 /// same seed and numbers give the same tally.
@@ -153,8 +160,8 @@ pub fn run(books: u64, damages: u64, seed: u64) -> Tally {
     named_books(&mut all);
     while all.compared + all.disagreements < books {
         let from = all.generated;
-        share(from..from + ROUND, &mut all, |n, tally| readable(seed, n, tally));
+        share(from..from + ROUND, |n, tally| readable(seed, n, tally)).into_iter().for_each(|t| all.merge(t));
     }
-    share(0..damages, &mut all, |n, tally| damaged(seed, n, tally));
+    share(0..damages, |n, tally| damaged(seed, n, tally)).into_iter().for_each(|t| all.merge(t));
     all
 }

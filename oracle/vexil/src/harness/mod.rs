@@ -10,6 +10,7 @@ use crate::ast::{
 };
 use crate::facts::{self, Lowered};
 use crate::span::Spanned;
+use std::time::{Duration, Instant};
 
 mod declarations;
 mod given;
@@ -50,6 +51,18 @@ fn lower_book_with(book: &[u8], constants: impl FnOnce(&Schema, &mut LowerCtx, &
         ctx.wildcard_origins.insert(name(r.a), None);
     }
     run(&schema, &mut ctx, constants)
+}
+
+/// How long the original evaluates the constants of an accepted book, handed over together.
+pub fn time_of_constants(book: &[u8]) -> Duration {
+    let mut time = Duration::ZERO;
+    lower_book_with(book, |schema, ctx, _| {
+        ctx.const_decls = declared_constants(schema).collect();
+        let start = Instant::now();
+        evaluate_constants(ctx);
+        time = start.elapsed();
+    });
+    time
 }
 
 /// The diagnostics of the original's own entry, which takes another order than document 01. Names that are ambiguous
