@@ -22,7 +22,7 @@ use Rattle.types.proofs.Resolving.{within, keeps-type}
 use Rattle.bodies.specs.Constraint.{WhereExpr, andOr, negated, compare, range, operand, whereExpr, lowerWhereBy, lowerWhereExpr}
 use Rattle.bodies.specs.Encoding.{Encoding, default, varint, zigzag, FieldEncoding, Inner, notEligible, hadBefore, over}
 use Rattle.bodies.specs.Encoding.{isKeylessNumber, limitIn, computeFieldEncoding}
-use Rattle.bodies.specs.Encoding.{deltaInner, underDelta, encodingNumber, encodingRecord}
+use Rattle.bodies.specs.Encoding.{deltaInner, underInner, underDelta, encodingNumber, encodingRecord}
 use Rattle.bodies.specs.Bodies.{unlessNone, lowerField, firstString, lowerTombstone, lowerVariant, lowerItem}
 use Rattle.bodies.specs.Bodies.{lowerMessage, lowerUnion, lowerNewtype, lowerDecl, lowerBodies}
 
@@ -81,7 +81,7 @@ sized-limit b (r ∷ rs) h =
     go false q = q
 
 limit-same : (b : Bool) (t : ResolvedType) (e : FieldEncoding) → (underDelta b t e) .limit ≡ e .limit
-unfolding underDelta
+unfolding underDelta underInner
 limit-same false t e = refl
 limit-same true t e = go (e .delta) (deltaInner t) refl refl
   where

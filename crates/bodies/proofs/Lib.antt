@@ -1,3 +1,15 @@
 pub mod Bodies
 pub mod Constant
 pub mod Whole
+pub mod Going
+pub mod Wheres
+pub mod Notes
+pub mod Noted
+pub mod Deltas
+pub mod Fields
+pub mod Tombstones
+pub mod Along
+pub mod Declaring
+pub mod Settling
+pub mod Settles
+pub mod InOrder

@@ -18,7 +18,7 @@ use Rattle.bodies.specs.Constraint.{WhereExpr, andOr, negated, compare, 
 use Rattle.bodies.specs.Whole.{WholeConstraints}
 
 -- a constraint or an operand
-abbrev Of : Record → Type 0
+abbrev pub Of : Record → Type 0
 Of r = (isOf constraint r ≡ true) ⊎ (isOf Group.operand r ≡ true)
 
 low : (r : Record) → Of r → r .kind < 20

@@ -1,7 +1,7 @@
 -- Encodings of fields: `compute_field_encoding` and a message's delta. Words in quotation marks are document 01's.
 -- Assumes nothing.
 use Prim.Native.Nat.{ℕ}
-use mathlib.Core.Bool.{Bool, true, false, cond, _&&_}
+use mathlib.Core.Bool.{Bool, true, false, not, cond, _&&_}
 use mathlib.Core.List.{List, [], _∷_}
 use mathlib.Core.Option.{Option, some, none}
 use lib.Dec.{ltb, eqb}
@@ -88,13 +88,13 @@ withDelta notEligible e = e
 withDelta hadBefore e = record { encoding = e .encoding; delta = true; limit = e .limit }
 withDelta (over base) e = record { encoding = base; delta = true; limit = e .limit }
 
+-- and under one that may not be there, for a field that may be delta already
+unfoldable pub underInner : Bool → Inner → FieldEncoding → FieldEncoding
+underInner messageDelta i e = cond (messageDelta && not (e .delta)) (withDelta i e) e
+
 -- "Under a message's delta, fields not yet delta and [eligible] become delta over: varint for 1-4, zigzag for 5-8, else what they had"
 unfoldable pub underDelta : Bool → ResolvedType → FieldEncoding → FieldEncoding
-underDelta messageDelta t e = cond (messageDelta && notYet (e .delta)) (withDelta (deltaInner t) e) e
-  where
-    notYet : Bool → Bool
-    notYet true = false
-    notYet false = true
+underDelta messageDelta t e = underInner messageDelta (deltaInner t) e
 
 -- "sub 0 default, 1 varint, 2 zigzag"
 unfoldable pub encodingNumber : Encoding → ℕ

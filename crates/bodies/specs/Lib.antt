@@ -3,3 +3,5 @@ pub mod Constraint
 pub mod Constant
 pub mod Bodies
 pub mod Whole
+pub mod Encoded
+pub mod Lowers

@@ -3,6 +3,7 @@ pub mod Lists
 pub mod Members
 pub mod Records
 pub mod Trees
+pub mod Soles
 pub mod Scans
 pub mod Counts
 pub mod Cells

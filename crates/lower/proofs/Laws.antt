@@ -24,7 +24,7 @@ use Rattle.types.specs.Events.{written, told, placeAfter, behind, StopsAt, Fits
 use Rattle.types.proofs.Events.{stopped-by-the-first, finished-if-all-fit, fits-nothing, fits-within}
 use Rattle.types.specs.Step.{isStored}
 use Rattle.bodies.specs.Constant.{storedCount}
-use Rattle.lower.specs.LowerBook.{Reply, accepted, refused, Lowered, lowerBook, lowerRead, lowerRecords, ended}
+use Rattle.lower.specs.LowerBook.{Reply, accepted, refused, Outcome, lowerBook, lowerRead, lowerRecords, ended}
 use Rattle.lower.specs.Laws.{firstRecords, Leaves, SlicesAreLeft}
 use Rattle.lower.proofs.Written.{written-within, stored-are-counted}
 use Rattle.lower.proofs.Slices.{room-in-bytes, records-kept, is-cleared, read-back}
@@ -118,19 +118,19 @@ module _ (book results diagnostics : List ℕ) where
   reply-refused :
       (x : Refusal) → firstRefusal book ≡ some x →
       (lowerBook book results diagnostics) .reply ≡ refused (number (x .cause)) (x .place)
-  reply-refused x e = ap (λ (y : Lowered). y .reply) (lower-refused x e)
+  reply-refused x e = ap (λ (y : Outcome). y .reply) (lower-refused x e)
 
   reply-stopped :
       (c : Stop) (p : ℕ) → firstRefusal book ≡ none → outcome ≡ stopped c p →
       (lowerBook book results diagnostics) .reply ≡ refused (stopNumber c) p
   unfolding ended
-  reply-stopped c p e h = ap (λ (y : Lowered). y .reply) (lower-ended (stopped c p) e h)
+  reply-stopped c p e h = ap (λ (y : Outcome). y .reply) (lower-ended (stopped c p) e h)
 
   reply-accepted :
       (a : Unit × Names) (s : State) → firstRefusal book ≡ none → outcome ≡ finished a s →
       (lowerBook book results diagnostics) .reply ≡ accepted (length (s .results)) (length (s .diagnostics)) (storedCount (settled (read book)))
   unfolding ended
-  reply-accepted a s e h = ap (λ (y : Lowered). y .reply) (lower-ended (finished a s) e h)
+  reply-accepted a s e h = ap (λ (y : Outcome). y .reply) (lower-ended (finished a s) e h)
 
 pub refused-by-its-row : RefusedByItsRow
 refused-by-its-row book results diagnostics x = (λ h. there h (goes book results diagnostics), back)
@@ -214,7 +214,7 @@ accepted-by-none book results diagnostics = (λ x. there x (goes book results di
 
 -- what is left in the slices
 module _ (book results diagnostics : List ℕ) where
-  abbrev Left : Lowered → Type 0
+  abbrev Left : Outcome → Type 0
   Left x = Leaves book results diagnostics x (x .reply)
 
   left-refused :

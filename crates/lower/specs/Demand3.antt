@@ -17,16 +17,16 @@ use Rattle.constants.specs.OfBook.{constants}
 use Rattle.constants.specs.Leads.{LiesOnRing, LeadsIntoRing}
 use Rattle.constants.specs.Demand3.{StoredFor, DeclaresAllOf, AddsNoneTo}
 use Rattle.types.specs.Step.{isStored}
-use Rattle.lower.specs.LowerBook.{Lowered}
+use Rattle.lower.specs.LowerBook.{Outcome}
 use Rattle.lower.specs.Laws.{IsAccepted, firstRecords}
 
 -- any lowering: from a book and two slices, for results and for diagnostics, to the reply and what is left in them
 abbrev pub AnyLowering : Type 0
-AnyLowering = List ℕ → List ℕ → List ℕ → Lowered
+AnyLowering = List ℕ → List ℕ → List ℕ → Outcome
 
 -- the name n and the value z "stand as a and v of the 41s marked stored among the results counted": read from the reply and the result slice, v
 -- as an i64
-pub record Stands (x : Lowered) (n : ℕ) (z : ℤ) : Type 0 where
+pub record Stands (x : Outcome) (n : ℕ) (z : ℤ) : Type 0 where
   pub reply : IsAccepted x
   pub entry : Record
   pub counted : List·Memᴰ entry (firstRecords (reply .results) (x .results))
@@ -35,7 +35,7 @@ pub record Stands (x : Lowered) (n : ℕ) (z : ℤ) : Type 0 where
   pub value : signed (entry .v) ≡ z
 
 -- of one accepted book
-pub record OfEach (book : List ℕ) (x : Lowered) : Type 0 where
+pub record OfEach (book : List ℕ) (x : Outcome) : Type 0 where
   -- "in each, exactly the stored names and values stand as a and v of the 41s marked stored among the results counted"
   pub exactly : (n : ℕ) (z : ℤ) → Stands x n z ↔ StoredFor book n z
   -- "no accepted book itself stores a constant that lies on a ring of its references or leads into one"
@@ -48,7 +48,7 @@ pub record OfEach (book : List ℕ) (x : Lowered) : Type 0 where
       ⊥
 
 -- of two accepted books, "where the second declares every constant of the first with the same expression"
-pub record OfBoth (first second : List ℕ) (x y : Lowered) : Type 0 where
+pub record OfBoth (first second : List ℕ) (x y : Outcome) : Type 0 where
   -- "every constant that demand 2 says is stored for the first is stored for the second, with the same value"
   pub kept :
       (n : ℕ) (z : ℤ) → StoredFor first n z → StoredFor second n z × Stands x n z × Stands y n z

@@ -19,7 +19,7 @@ use Rattle.constants.specs.OfBook.{settled}
 use Rattle.types.specs.Lowering.{Stop, stopNumber, usedLimits}
 use Rattle.types.specs.Step.{isStored}
 use Rattle.types.specs.Events.{Event, events, written, told, StopsAt, Fits}
-use Rattle.lower.specs.LowerBook.{Reply, accepted, refused, Lowered, lowerBook, lowerRecords}
+use Rattle.lower.specs.LowerBook.{Reply, accepted, refused, Outcome, lowerBook, lowerRecords}
 
 -- a slice as it was from byte n on, and as long as it was
 pub record KeptFrom (n : ℕ) (lent left : List ℕ) : Type 0 where
@@ -41,7 +41,7 @@ doings book = events (lowerRecords (settled (read book)) (read book)) 0
 
 -- accepted with r results, d diagnostics and c stored constants: the slices hold exactly the records that the lowering writes and tells, within
 -- the used limits, and are else as lent; the counts are those of these records
-pub record LeavesRecords (book results diagnostics : List ℕ) (x : Lowered) (r d c : ℕ) : Type 0 where
+pub record LeavesRecords (book results diagnostics : List ℕ) (x : Outcome) (r d c : ℕ) : Type 0 where
   pub results-are : firstRecords r (x .results) ≡ written (doings book)
   pub results-count : r ≡ length (written (doings book))
   pub results-limit : r ≤ roomFor 2048 results
@@ -53,17 +53,17 @@ pub record LeavesRecords (book results diagnostics : List ℕ) (x : Lowered) (r 
   pub stored-count : c ≡ length (keep isStored (firstRecords r (x .results)))
 
 -- refused by 9 or 10: "On 9 and 10 each slice is zero up to its limit in bytes"
-pub record LeavesZeros (results diagnostics : List ℕ) (x : Lowered) : Type 0 where
+pub record LeavesZeros (results diagnostics : List ℕ) (x : Outcome) : Type 0 where
   pub in-results : Cleared (roomFor 2048 results) results (x .results)
   pub in-diagnostics : Cleared (roomFor 256 diagnostics) diagnostics (x .diagnostics)
 
 -- refused by 1 to 8: all "Left as it was"
-pub record LeavesAll (results diagnostics : List ℕ) (x : Lowered) : Type 0 where
+pub record LeavesAll (results diagnostics : List ℕ) (x : Outcome) : Type 0 where
   pub in-results : x .results ≡ results
   pub in-diagnostics : x .diagnostics ≡ diagnostics
 
 -- what each reply says of the slices
-unfoldable pub Leaves : List ℕ → List ℕ → List ℕ → Lowered → Reply → Type 0
+unfoldable pub Leaves : List ℕ → List ℕ → List ℕ → Outcome → Reply → Type 0
 Leaves book results diagnostics x (accepted r d c) = LeavesRecords book results diagnostics x r d c
 Leaves book results diagnostics x (refused n p) =
     (n ≤ 8 → LeavesAll results diagnostics x) × (9 ≤ n → LeavesZeros results diagnostics x)
@@ -99,7 +99,7 @@ StoppedByItsRow =
     (NoRowHolds book × StopsAt (usedLimits results diagnostics) [] (doings book) c p)
 
 -- accepted, whatever the counts
-pub record IsAccepted (x : Lowered) : Type 0 where
+pub record IsAccepted (x : Outcome) : Type 0 where
   pub results : ℕ
   pub diagnostics : ℕ
   pub constants : ℕ

@@ -33,13 +33,13 @@ pub data Reply : Type 0 where
   refused : ℕ → ℕ → Reply
 
 -- the reply, and both slices as they are left
-pub record Lowered : Type 0 where
+pub record Outcome : Type 0 where
   pub reply : Reply
   pub results : List ℕ
   pub diagnostics : List ℕ
 
 -- how a lowering under limits leaves the slices: accepted, or refused by 9 or 10
-unfoldable pub ended : {A : Type 0} → ℕ → Limits → List ℕ → List ℕ → Out A → Lowered
+unfoldable pub ended : {A : Type 0} → ℕ → Limits → List ℕ → List ℕ → Out A → Outcome
 ended stored most results diagnostics (finished a s) =
     record {
       reply = accepted (length (s .results)) (length (s .diagnostics)) stored;
@@ -54,13 +54,13 @@ ended stored most results diagnostics (stopped stop p) =
     }
 
 -- a book that none of 1 to 8 refuses
-unfoldable pub lowerRead : List Settled → Book → List ℕ → List ℕ → Lowered
+unfoldable pub lowerRead : List Settled → Book → List ℕ → List ℕ → Outcome
 lowerRead cs book results diagnostics =
     let most : Limits = usedLimits results diagnostics in
     ended (storedCount cs) most results diagnostics (run most (lowerRecords cs book) start)
 
 -- causes 1 to 8 leave "all" as it was
-unfoldable pub lowerBook : List ℕ → List ℕ → List ℕ → Lowered
+unfoldable pub lowerBook : List ℕ → List ℕ → List ℕ → Outcome
 lowerBook book results diagnostics =
     elim (firstRefusal book) [
       | some x ↦ record { reply = refused (number (x .cause)) (x .place); results = results; diagnostics = diagnostics }

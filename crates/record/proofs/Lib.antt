@@ -2,5 +2,6 @@ pub mod Numbers
 pub mod Trips
 pub mod Sums
 pub mod Writes
+pub mod Clears
 pub mod Fronts
 mod Examples

@@ -5,7 +5,7 @@ ghost use lib.Dec.{ltb};
 ghost use lib.ListN.{drop};
 ghost use Prim.Native.Nat.{_*_};
 ghost use Rattle.record.specs.Layout.{decodeRecord};
-ghost use Rattle.record.specs.Write.{roomFor, put};
+ghost use Rattle.record.specs.Write.{roomFor, put, cleared};
 use crate::RECORD_BYTES;
 use crate::Record;
 use crate::bytes;
@@ -41,6 +41,18 @@ pub fn put_record(dst: &mut [u8], most: u16, n: u16, r: Record) -> bool
         i += 1;
     }
     true
+}
+
+// Zeros in the place of all records that may be written to dst, up to `most`. What is past them stays.
+pub fn clear(dst: &mut [u8], most: u16)
+    ensures { λ _. ⌜ now (dst .exit) ≡ cleared (roomFor most (now (dst .entry))) (now (dst .entry)) ⌝ }
+{
+    let end = RECORD_BYTES * (room(dst, most) as usize);
+    let mut i: usize = 0;
+    while i < end {
+        dst[i] = 0;
+        i += 1;
+    }
 }
 
 // Record n of those that were written to s. A byte past the end of the slice counts as 0.

@@ -1,25 +1,20 @@
 -- The definitions at work: the header of the book K1 of document 01, which is accepted with 4 results, 0 diagnostics and 2 constants; names;
--- what each cause asks; and which 41s tell some constants.
+-- what each cause changes; slices as lent and as left, and the reply that an answer says.
 -- Assumes nothing.
 use Prim.Native.Nat.{ℕ}
 use mathlib.Core.Bool.{true, false}
 use mathlib.Core.List.{List, [], _∷_, _++_}
-use mathlib.Core.Option.{Option, some, none}
 use mathlib.Core.Path.{_≡_, refl}
-use lib.IntN.{ℤ, pos}
 use lib.ListN.{replicate}
+use Rattle.book.specs.Lists.{from}
+use Rattle.lower.specs.LowerBook.{accepted}
 use Rattle.record.specs.Bytes.{littleEndian, littleBytes}
-use Rattle.record.specs.declared.Record.{Record}
-use Rattle.arith.specs.Word.{word}
-use Rattle.constants.specs.Expr.{reference}
-use Rattle.constants.specs.Order.{Settled}
-use Rattle.constants.specs.Evaluated.{hasValue, valueOr0}
 use Rattle.replay.specs.Bytes.{printed, zeros, isName}
 use Rattle.replay.specs.Layout.{headerOf}
 use Rattle.replay.specs.Range.{inRange, wellFormed}
 use Rattle.replay.specs.Agree.{changes, follows, agrees, placesIn, suits}
-use Rattle.replay.specs.Checks.{mustHold}
-use Rattle.replay.specs.Constants.{sayEach}
+use Rattle.replay.specs.Lent.{lentByte, patterned}
+use Rattle.replay.specs.Said.{replySaid, frontSaid, leftAs}
 use Rattle.replay.specs.Outcome.{complete, formed}
 use Rattle.replay.specs.declared.layout.Part.{Part}
 
@@ -57,27 +52,22 @@ cleared : (changes 9 2048 (lent 100) ≡ 96) × ((changes 10 2048 (lent 49200) �
 unfolding lent changes
 cleared = (refl, (refl, refl))
 
--- of 64 blocks, for a refusal at block 5 and for an accepted book
-held : (mustHold 2 5 64 ≡ 5) × ((mustHold 3 5 64 ≡ 6) × (mustHold 0 0 64 ≡ 64))
-unfolding mustHold
-held = (refl, (refl, refl))
+-- the first bytes as lent; past 255 they start again
+filled : (patterned 3 5 17 ≡ 17 ∷ 22 ∷ 27 ∷ []) × ((patterned 3 3 29 ≡ 29 ∷ 32 ∷ 35 ∷ []) × (lentByte 5 17 48 ≡ 1))
+unfolding patterned from
+filled = (refl, (refl, refl))
 
--- K1's constants, N1 = 6 and N2 = 42, and a third without a value: a 41 for each, in their order, and none besides
-told : ℕ → ℕ → ℕ → Record
-told name sub value = record { kind = 41; sub = sub; a = name; b = 0; c = 0; v = value; span = record { offset = 0; len = 0 } }
+-- K1 is accepted with its counts
+k1-says : replySaid (headerOf k1) ≡ accepted 4 0 2
+unfolding k1 four littleBytes headerOf littleEndian replySaid
+k1-says = refl
 
-is-worth : ℕ → Option ℤ → Settled
-is-worth name value = record { constant = record { place = 0; name = name; expr = reference 0 }; value = value }
+-- three bytes of which two change: as written if the book is accepted, and zero if it is refused by 9; none changes if it is refused by 1
+changed : ℕ → Part
+changed n = record { lent = 3; count = 0; changed = n }
 
-three : List Settled
-three = is-worth 1 (some (pos 6)) ∷ is-worth 2 (some (pos 42)) ∷ is-worth 3 none ∷ []
-
-each-told : sayEach (told 1 1 6 ∷ told 2 1 42 ∷ told 3 0 0 ∷ []) three ≡ true
-unfolding told is-worth three sayEach hasValue valueOr0 word
-each-told = refl
-
-not-told :
-    (sayEach (told 1 1 6 ∷ told 2 1 43 ∷ told 3 0 0 ∷ []) three ≡ false)
-    × ((sayEach (told 2 1 42 ∷ told 1 1 6 ∷ told 3 0 0 ∷ []) three ≡ false) × (sayEach (told 1 1 6 ∷ told 2 1 42 ∷ []) three ≡ false))
-unfolding told is-worth three sayEach hasValue valueOr0 word
-not-told = (refl, (refl, refl))
+left :
+    (leftAs 0 (changed 2) (1 ∷ 2 ∷ []) (patterned 3 5 17) ≡ 1 ∷ 2 ∷ 27 ∷ [])
+    × ((leftAs 9 (changed 2) [] (patterned 3 5 17) ≡ 0 ∷ 0 ∷ 27 ∷ []) × (leftAs 1 (changed 0) [] (patterned 3 5 17) ≡ 17 ∷ 22 ∷ 27 ∷ []))
+unfolding changed leftAs frontSaid patterned from
+left = (refl, (refl, refl))

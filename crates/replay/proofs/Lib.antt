@@ -1,7 +1,7 @@
 mod Scans
 mod Tallies
-mod Backs
-mod Settled
-mod Standing
-mod Ends
+mod Patterns
+mod Sames
+mod Lefts
+mod Founds
 mod Examples

@@ -1,6 +1,6 @@
 -- Lists that are looked at from the front on, byte by byte: what the byte at i tells, and what is left behind it.
 -- Assumes nothing.
-use Prim.Native.Nat.{ℕ, suc, _+_, _≤_, _<_}
+use Prim.Native.Nat.{ℕ, zero, suc, _+_, _≤_, _<_}
 use mathlib.Core.Bool.{Bool, true, false, _&&_}
 use mathlib.Core.List.{List, [], _∷_}
 use mathlib.Core.Path.{_≡_, refl}
@@ -8,18 +8,20 @@ use native.Mathlib.Numerals.{add-one}
 use native.Mathlib.Omega.{arith}
 use lib.Dec.{eqb}
 use lib.ListN.{length, drop, getD}
-use lib.Seq.{drop-cons, drop-length}
+use lib.Seq.{drop-cons, drop-nil}
 use borrow.Author.Tests.{eq-eqb, ne-eqb, le-leb, lt-leb}
 use Rattle.replay.specs.Bytes.{startsWith, zeros, printed}
+use Rattle.replay.specs.Said.{same}
 
 -- the rest from i on is the byte at i, and the rest behind it
 next : (s : List ℕ) (i : ℕ) → i < length s → drop i s ≡ getD s i 0 ∷ drop (i + 1) s
 next s i h = rw (add-one i) (drop-cons s i 0 h)
 
-pub none-left : (s : List ℕ) (i : ℕ) → length s ≤ i → i ≤ length s → drop i s ≡ []
-none-left s i h k =
-    let e : i ≡ length s = omega arith in
-    rw e (drop-length s)
+-- nothing is left at the end and past it
+pub none-left : (s : List ℕ) (i : ℕ) → length s ≤ i → drop i s ≡ []
+none-left [] i h = drop-nil i
+none-left (b ∷ s) zero h = absurd (omega arith)
+none-left (b ∷ s) (suc i) h = none-left s i (omega arith)
 
 and-false : (b : Bool) → b && false ≡ false
 and-false true = refl
@@ -56,6 +58,14 @@ module _ (s : List ℕ) (i : ℕ) (h : i < length s) where
     pub starts-out : (getD s i 0 ≡ getD xs i 0 → ⊥) → startsWith (drop i s) (drop i xs) ≡ false
     unfolding startsWith
     starts-out e = rw (next s i h, next xs i k, ne-eqb (getD s i 0) (getD xs i 0) e)
+
+    pub same-on : getD s i 0 ≡ getD xs i 0 → same (drop i s) (drop i xs) ≡ same (drop (i + 1) s) (drop (i + 1) xs)
+    unfolding same
+    same-on e = rw (next s i h, next xs i k, eq-eqb (getD s i 0) (getD xs i 0) e)
+
+    pub same-out : (getD s i 0 ≡ getD xs i 0 → ⊥) → same (drop i s) (drop i xs) ≡ false
+    unfolding same
+    same-out e = rw (next s i h, next xs i k, ne-eqb (getD s i 0) (getD xs i 0) e)
 
 -- no list stands at the front of a shorter one
 pub too-short : (s xs : List ℕ) → length s < length xs → startsWith s xs ≡ false

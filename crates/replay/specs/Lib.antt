@@ -2,9 +2,7 @@ pub mod Bytes
 pub mod Layout
 pub mod Range
 pub mod Agree
-pub mod Checks
-pub mod Reading
-pub mod Constants
-pub mod Aliases
+pub mod Lent
+pub mod Said
 pub mod Outcome
 pub mod Totals

@@ -1,17 +1,16 @@
 -- What is found of one answer.
 -- Assumes nothing.
-use Prim.Native.Nat.{ℕ, _+_, _*_}
-use mathlib.Core.Bool.{Bool, not, _&&_, _||_}
+use Prim.Native.Nat.{ℕ}
+use mathlib.Core.Bool.{Bool, true, false, _&&_}
 use mathlib.Core.List.{List}
-use lib.Dec.{ltb, eqb}
+use mathlib.Core.Logic.{_↔_}
+use mathlib.Core.Path.{_≡_}
+use lib.Dec.{eqb}
 use lib.ListN.{length}
-use Rattle.book.specs.Answer.{readBook}
-use Rattle.replay.specs.Bytes.{bit}
-use Rattle.replay.specs.Agree.{follows, agrees, blocksIn, suits}
-use Rattle.replay.specs.Checks.{mustHold, holding, failing, readingBack}
-use Rattle.replay.specs.Reading.{readsAs}
-use Rattle.replay.specs.Constants.{constantsAgree}
-use Rattle.replay.specs.Aliases.{aliasesAgree}
+use Rattle.lower.specs.LowerBook.{Reply, accepted, refused, lowerBook}
+use Rattle.replay.specs.Agree.{follows, agrees, suits}
+use Rattle.replay.specs.Lent.{lentResults, lentDiagnostics}
+use Rattle.replay.specs.Said.{said, agreesWith}
 use Rattle.replay.specs.declared.layout.Header.{Header}
 use Rattle.replay.specs.declared.answer.Outcome.{Outcome}
 
@@ -22,38 +21,32 @@ complete h book results diagnostics =
     && eqb results (follows (h .cause) (h .results))
     && eqb diagnostics (follows (h .cause) (h .diagnostics))
 
--- the form of an answer, before its book is looked into
+-- the form of an answer, before its book is lowered
 unfoldable pub formed : Header → ℕ → ℕ → ℕ → Bool
 formed h book results diagnostics = agrees h && suits h book && complete h book results diagnostics
 
--- the book reads as the reply says, the constants stand if it is accepted, the plain aliases do if it is not refused by 1 to 8, the first n blocks
--- hold their checks, block n does not if the cause is 2, and the records of the n blocks are read back
-unfoldable pub checked : Header → List ℕ → List ℕ → List ℕ → ℕ → Outcome
-checked h book results diagnostics n =
-    record {
-      right =
-          readsAs h (readBook book)
-          && (not (eqb (h .cause) 0) || constantsAgree h book results (readBook book))
-          && ((ltb 0 (h .cause) && ltb (h .cause) 9) || aliasesAgree h book results diagnostics (readBook book))
-          && eqb (holding book n) n
-          && (not (eqb (h .cause) 2) || failing (h .cause) book n)
-          && eqb (readingBack book (21 * n)) (21 * n);
-      read = readsAs h (readBook book);
-      constants = constantsAgree h book results (readBook book);
-      aliases = aliasesAgree h book results diagnostics (readBook book);
-      blocks = holding book n + bit (failing (h .cause) book n);
-      records = readingBack book (21 * n);
-    }
+-- whether an answer is right, and what the reply to its book counts: nothing if it is a refusal
+unfoldable pub found : Bool → Reply → Outcome
+found right (accepted r d c) = record { right = right; accepted = true; results = r; diagnostics = d; constants = c }
+found right (refused n p) = record { right = right; accepted = false; results = 0; diagnostics = 0; constants = 0 }
 
--- an answer is right where its form is and its checks are
+-- an answer whose book is lowered into two slices: it is right where its form is, and where that gives the reply and the slices that it says
+unfoldable pub outcomeInto : Header → List ℕ → List ℕ → List ℕ → List ℕ → List ℕ → Outcome
+outcomeInto h book results diagnostics ownResults ownDiagnostics =
+    found
+    (formed h (length book) (length results) (length diagnostics)
+    && agreesWith (lowerBook book ownResults ownDiagnostics) (said h results diagnostics ownResults ownDiagnostics))
+    ((lowerBook book ownResults ownDiagnostics) .reply)
+
+-- the same with slices as long as the answer says, filled as they are lent
 unfoldable pub outcome : Header → List ℕ → List ℕ → List ℕ → Outcome
-outcome h book results diagnostics =
-    let found : Outcome = checked h book results diagnostics (mustHold (h .cause) (h .place) (blocksIn (length book))) in
-    record {
-      right = formed h (length book) (length results) (length diagnostics) && found .right;
-      read = found .read;
-      constants = found .constants;
-      aliases = found .aliases;
-      blocks = found .blocks;
-      records = found .records;
-    }
+outcome h book results diagnostics = outcomeInto h book results diagnostics (lentResults h) (lentDiagnostics h)
+
+-- What is claimed of this: an answer is right exactly if its form is, and if lowering its book into the slices as lent gives what it says. The
+-- proof is in proofs/Founds.antt.
+abbrev pub RightIfLowered : Type 0
+RightIfLowered =
+    (h : Header) (book results diagnostics : List ℕ) →
+    ((outcome h book results diagnostics) .right ≡ true) ↔
+    ((formed h (length book) (length results) (length diagnostics) ≡ true)
+    × (lowerBook book (lentResults h) (lentDiagnostics h) ≡ said h results diagnostics (lentResults h) (lentDiagnostics h)))

@@ -1,25 +1,28 @@
 // One answer: a header, a book, and what was written for it.
 
 ghost use mathlib.Core.Path.{_≡_};
-ghost use Prim.Native.Nat.{_≤_};
-ghost use Rattle.replay.specs.Outcome.{complete, formed, checked, outcome};
+ghost use lib.ListN.{length};
+ghost use Rattle.lower.specs.Promise.{replyOf};
+ghost use Rattle.replay.specs.Lent.{patterned};
+ghost use Rattle.replay.specs.Outcome.{complete, formed, found, outcomeInto, outcome};
 use crate::agree;
-use crate::aliases;
-use crate::checks;
 use crate::layout::Header;
-use crate::reading;
-use crate::values;
+use crate::lent;
+use crate::said;
+use lower::Reply;
 
-// What is found of an answer: whether it is right, whether its book reads as the reply says, whether it is accepted and
-// its constants stand among the results, whether its plain aliases are lowered as it says, how many blocks have the
-// check that they should have or not have, and how many records are read back.
+// The longest slices that a header in range can ask for, in bytes.
+const RESULT_BYTES: usize = 49200;
+
+const DIAGNOSTIC_BYTES: usize = 6192;
+
+// What is found of an answer: whether it is right; whether the lowering accepts its book, and what it counts then.
 pub struct Outcome {
     pub right: bool,
-    pub read: bool,
-    pub constants: bool,
-    pub aliases: bool,
-    pub blocks: u16,
-    pub records: u16,
+    pub accepted: bool,
+    pub results: u16,
+    pub diagnostics: u16,
+    pub constants: u16,
 }
 
 // Whether as many bytes stand behind the header as it says.
@@ -31,7 +34,7 @@ fn is_complete(h: Header, book: usize, results: usize, diagnostics: usize) -> bo
         & (diagnostics == agree::following(h.cause, h.diagnostics) as usize)
 }
 
-// Whether an answer has the form that it should have, before its book is looked into.
+// Whether an answer has the form that it should have, before its book is lowered.
 fn is_formed(h: Header, book: usize, results: usize, diagnostics: usize) -> bool
     ensures { λ r. ⌜ r ≡ formed h book results diagnostics ⌝ }
 {
@@ -40,48 +43,62 @@ fn is_formed(h: Header, book: usize, results: usize, diagnostics: usize) -> bool
         & is_complete(h, book, results, diagnostics)
 }
 
-// Whether its book reads as the reply says, and its constants and plain aliases stand; the checks of the book's first n
-// blocks and of their records.
-fn check_book(h: Header, book: &[u8], results: &[u8], diagnostics: &[u8], n: u16) -> Outcome
-    requires { ⌜ n ≤ 64 ⌝ }
-    ensures { λ r. ⌜ r ≡ checked h (now (book .entry)) (now (results .entry)) (now (diagnostics .entry)) n ⌝ }
+// What is found of an answer that is right or not, by the reply to its book.
+fn found(right: bool, reply: Reply) -> Outcome
+    ensures { λ r. ⌜ r ≡ found right (replyOf reply) ⌝ }
 {
-    let holding = checks::count_holding(book, n);
-    let fails = checks::block_fails(h.cause, book, n);
-    let back = checks::count_back(book, 21 * n);
-    let reading = book::read_book(book);
-    let read = reading::reading_agrees(h, reading);
-    let constants = values::constants_agree(h, book, results, reading);
-    let aliases = aliases::aliases_agree(h, book, results, diagnostics, reading);
-    Outcome {
-        right: read
-            & ((h.cause != 0) | constants)
-            & ((0 < h.cause) & (h.cause < 9) | aliases)
-            & (holding == n)
-            & ((h.cause != 2) | fails)
-            & (back == 21 * n),
-        read,
-        constants,
-        aliases,
-        blocks: holding + fails as u16,
-        records: back,
+    match reply {
+        Reply::Accepted {
+            results,
+            diagnostics,
+            constants,
+        } => Outcome {
+            right,
+            accepted: true,
+            results,
+            diagnostics,
+            constants,
+        },
+        Reply::Refused { .. } => Outcome {
+            right,
+            accepted: false,
+            results: 0,
+            diagnostics: 0,
+            constants: 0,
+        },
     }
 }
 
-// What is found of an answer that is handed over whole. What else the slices hold is for the lowering to say; until it
-// is there, their lengths are held to the header.
+// What is found of an answer whose book is lowered into two slices: `own` for the results, `told` for the diagnostics.
+// Byte i of the one is lent as 5 i + 17, of the other as 3 i + 29, modulo 256.
+fn replay_into(
+    h: Header,
+    book: &[u8],
+    results: &[u8],
+    diagnostics: &[u8],
+    own: &mut [u8],
+    told: &mut [u8],
+) -> Outcome
+    ensures { λ r. ⌜ r ≡ outcomeInto h (now (book .entry)) (now (results .entry)) (now (diagnostics .entry))
+        (patterned (length (now (own .entry))) 5 17) (patterned (length (now (told .entry))) 3 29) ⌝ }
+{
+    lent::fill_pattern(own, 5, 17);
+    lent::fill_pattern(told, 3, 29);
+    let reply = lower::lower_book(book, own, told);
+    let formed = is_formed(h, book.len(), results.len(), diagnostics.len());
+    let agrees = said::reply_agrees(h, reply)
+        & said::slice_agrees(h.cause, h.results, results, own, 5, 17)
+        & said::slice_agrees(h.cause, h.diagnostics, diagnostics, told, 3, 29);
+    found(formed & agrees, reply)
+}
+
+// What is found of an answer that is handed over whole: its book is lowered into slices as long as the answer says.
 pub(crate) fn replay_answer(h: Header, book: &[u8], results: &[u8], diagnostics: &[u8]) -> Outcome
     ensures { λ r. ⌜ r ≡ outcome h (now (book .entry)) (now (results .entry)) (now (diagnostics .entry)) ⌝ }
 {
-    let formed = is_formed(h, book.len(), results.len(), diagnostics.len());
-    let n = checks::must_hold(h.cause, h.place, agree::block_count(book.len()));
-    let found = check_book(h, book, results, diagnostics, n);
-    Outcome {
-        right: formed & found.right,
-        read: found.read,
-        constants: found.constants,
-        aliases: found.aliases,
-        blocks: found.blocks,
-        records: found.records,
-    }
+    let mut own = [0u8; RESULT_BYTES];
+    let mut told = [0u8; DIAGNOSTIC_BYTES];
+    let r = lent::least(h.results.lent, RESULT_BYTES as u32) as usize;
+    let d = lent::least(h.diagnostics.lent, DIAGNOSTIC_BYTES as u32) as usize;
+    replay_into(h, book, results, diagnostics, &mut own[..r], &mut told[..d])
 }

@@ -38,7 +38,7 @@ pub(crate) fn starts_with(s: &[u8], xs: &[u8]) -> bool
 }
 
 // Whether every byte is zero.
-fn all_zero(s: &[u8]) -> bool
+pub(crate) fn all_zero(s: &[u8]) -> bool
     ensures { λ r. ⌜ r ≡ zeros (now (s .entry)) ⌝ }
 {
     let mut i: usize = 0;

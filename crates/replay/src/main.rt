@@ -1,16 +1,14 @@
-// Reads a list of answers on standard input, checks the form of each and what the crates `record`, `book`, `constants`
-// and `types` can tell of its book, and prints the totals.
+// Reads a list of answers on standard input, checks the form of each, lowers its book and compares the reply and both
+// slices with what the answer says, and prints the totals.
 
 mod agree;
-mod aliases;
 mod answer;
 mod bytes;
-mod checks;
 mod layout;
+mod lent;
 mod range;
-mod reading;
+mod said;
 mod totals;
-mod values;
 
 use answer::Outcome;
 use layout::Header;
@@ -24,9 +22,9 @@ enum Head {
     Broken,
 }
 
-// What reading an answer gives: whether it says accepted and what is found of it; or that the list cannot be read on.
+// What reading an answer gives: what is found of it; or that the list cannot be read on.
 enum Read {
-    Answer(bool, Outcome),
+    Answer(Outcome),
     Broken,
 }
 
@@ -71,7 +69,7 @@ fn read_rest(h: Header) -> Read {
             bytes::front(&results, r),
             bytes::front(&diagnostics, d),
         );
-        Read::Answer(h.cause == 0, found)
+        Read::Answer(found)
     } else {
         Read::Broken
     }
@@ -87,7 +85,7 @@ fn read_answer() -> Read {
         return Read::Broken;
     }
     let read = read_rest(layout::header_of(&header));
-    if let Read::Answer(_, found) = read {
+    if let Read::Answer(found) = read {
         if !found.right {
             print_wrong(&header);
         }
@@ -100,10 +98,10 @@ fn read_answers(n: u32) -> Totals {
     let mut t = totals::none();
     let mut k: u32 = 0;
     while k < n {
-        let Read::Answer(accepted, found) = read_answer() else {
+        let Read::Answer(found) = read_answer() else {
             return t;
         };
-        t = totals::count(t, accepted, found);
+        t = totals::count(t, found);
         k += 1;
     }
     t
@@ -126,11 +124,9 @@ fn print_totals(t: Totals) {
     print_line(b"answers ", t.answers);
     print_line(b"accepted ", t.accepted);
     print_line(b"refused ", t.refused);
-    print_line(b"read ", t.read);
+    print_line(b"results ", t.results);
+    print_line(b"diagnostics ", t.diagnostics);
     print_line(b"constants ", t.constants);
-    print_line(b"aliases ", t.aliases);
-    print_line(b"blocks ", t.blocks);
-    print_line(b"records ", t.records);
     print_line(b"wrong ", t.wrong);
 }
 

@@ -5,15 +5,14 @@ ghost use Prim.Native.Nat.{_<_, _^_};
 ghost use Rattle.replay.specs.Totals.{counted, Within};
 use crate::answer::Outcome;
 
+// The counts of results, diagnostics and constants are sums over the books that the lowering accepts.
 pub struct Totals {
     pub answers: u64,
     pub accepted: u64,
     pub refused: u64,
-    pub read: u64,
+    pub results: u64,
+    pub diagnostics: u64,
     pub constants: u64,
-    pub aliases: u64,
-    pub blocks: u64,
-    pub records: u64,
     pub wrong: u64,
 }
 
@@ -25,29 +24,25 @@ pub(crate) fn none() -> Totals
         answers: 0,
         accepted: 0,
         refused: 0,
-        read: 0,
+        results: 0,
+        diagnostics: 0,
         constants: 0,
-        aliases: 0,
-        blocks: 0,
-        records: 0,
         wrong: 0,
     }
 }
 
 // One answer more.
-pub(crate) fn count(t: Totals, accepted: bool, o: Outcome) -> Totals
+pub(crate) fn count(t: Totals, o: Outcome) -> Totals
     requires { ⌜ (t .answers < 2 ^ 32) × Within t ⌝ }
-    ensures { λ r. ⌜ (r ≡ counted t accepted o) × Within r ⌝ }
+    ensures { λ r. ⌜ (r ≡ counted t o) × Within r ⌝ }
 {
     Totals {
         answers: t.answers + 1,
-        accepted: t.accepted + accepted as u64,
-        refused: t.refused + !accepted as u64,
-        read: t.read + o.read as u64,
+        accepted: t.accepted + o.accepted as u64,
+        refused: t.refused + !o.accepted as u64,
+        results: t.results + o.results as u64,
+        diagnostics: t.diagnostics + o.diagnostics as u64,
         constants: t.constants + o.constants as u64,
-        aliases: t.aliases + o.aliases as u64,
-        blocks: t.blocks + o.blocks as u64,
-        records: t.records + o.records as u64,
         wrong: t.wrong + !o.right as u64,
     }
 }

@@ -29,7 +29,7 @@ use Rattle.constants.proofs.Distinct.{accepted-is-distinct}
 use Rattle.constants.proofs.SameTrees.{same-expressions-are-equal}
 use Rattle.constants.proofs.Stored.{stores-the-stored}
 use Rattle.types.specs.Step.{isStored}
-use Rattle.lower.specs.LowerBook.{Lowered}
+use Rattle.lower.specs.LowerBook.{Outcome}
 use Rattle.lower.specs.Laws.{IsAccepted, firstRecords}
 use Rattle.lower.proofs.Demand3.{demand-3}
 use Rattle.constants.specs.Demand3.{StoredFor, DeclaresAllOf, AddsNoneTo}
@@ -95,7 +95,7 @@ stores-two x = isStored x && eqb (x .a) N2
 
 -- where no record counted is so, N2 does not stand
 not-standing :
-    (x : Lowered) (answer : IsAccepted x) →
+    (x : Outcome) (answer : IsAccepted x) →
     any stores-two (firstRecords (answer .results) (x .results)) ≡ false →
     (z : ℤ) →
     Stands x N2 z →

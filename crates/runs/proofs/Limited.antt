@@ -10,7 +10,7 @@ use Rattle.book.specs.Refusal.{Refusal, number, firstRefusal}
 use Rattle.constants.specs.OfBook.{settled}
 use Rattle.types.specs.Lowering.{Limits, start, run, usedLimits}
 use Rattle.bodies.specs.Constant.{storedCount}
-use Rattle.lower.specs.LowerBook.{Lowered, refused, lowerRecords, ended, lowerRead, lowerBook}
+use Rattle.lower.specs.LowerBook.{Outcome, refused, lowerRecords, ended, lowerRead, lowerBook}
 
 -- number and place of a refusal
 abbrev pub placed : Option Refusal → Option (ℕ × ℕ)
@@ -18,7 +18,7 @@ placed none = none
 placed (some x) = some (number (x .cause), x .place)
 
 -- a refusal by number and place, which leaves both slices, or what there is else
-abbrev pub refusedOr : Lowered → List ℕ → List ℕ → Option (ℕ × ℕ) → Lowered
+abbrev pub refusedOr : Outcome → List ℕ → List ℕ → Option (ℕ × ℕ) → Outcome
 refusedOr l results diagnostics none = l
 refusedOr l results diagnostics (some q) =
     record { reply = refused (q .0) (q .1); results = results; diagnostics = diagnostics }
@@ -33,7 +33,7 @@ by-refusal book results diagnostics = go (firstRefusal book)
   where
     go :
         (o : Option Refusal) →
-        _≡_ {A = Lowered}
+        _≡_ {A = Outcome}
         (elim o [
           | some x ↦ record { reply = refused (number (x .cause)) (x .place); results = results; diagnostics = diagnostics }
           | none ↦ lowerRead (settled (read book)) (read book) results diagnostics
@@ -47,7 +47,7 @@ abbrev pub limits : ℕ → ℕ → Limits
 limits r d = record { results = min 2048 (r / 24); diagnostics = min 256 (d / 24) }
 
 -- `lowerBook` with the limits known
-unfoldable pub lowerIn : Limits → List ℕ → List ℕ → List ℕ → Lowered
+unfoldable pub lowerIn : Limits → List ℕ → List ℕ → List ℕ → Outcome
 lowerIn most book results diagnostics =
     refusedOr
     (ended

@@ -13,7 +13,7 @@ use Rattle.book.specs.Refusal.{firstRefusal}
 use Rattle.constants.specs.OfBook.{settled}
 use Rattle.types.specs.Lowering.{Limits, Out, finished, stopped, stopNumber, start, run}
 use Rattle.bodies.specs.Constant.{storedCount}
-use Rattle.lower.specs.LowerBook.{Lowered, refused, lowerRecords, ended, lowerRead}
+use Rattle.lower.specs.LowerBook.{Outcome, refused, lowerRecords, ended, lowerRead}
 use Rattle.runs.specs.Books.{bookOf}
 use Rattle.runs.specs.Compute.{computed}
 use Rattle.runs.specs.Refused.{TurnedBack, TurnsBack, Passes, Stopped, Stops, zeroUpTo, RefusedBooks, over, deepest}
@@ -156,7 +156,7 @@ claimed s =
 
 module _ (results diagnostics : List ℕ) where
   -- a stop by number and place, or what there is else; zero bytes up to two limits
-  abbrev stoppedBy : Lowered → ℕ → ℕ → Option (ℕ × ℕ) → Lowered
+  abbrev stoppedBy : Outcome → ℕ → ℕ → Option (ℕ × ℕ) → Outcome
   stoppedBy l r d none = l
   stoppedBy l r d (some q) =
       record { reply = refused (q .0) (q .1); results = zeroUpTo r results; diagnostics = zeroUpTo d diagnostics }
@@ -172,7 +172,7 @@ module _ (results diagnostics : List ℕ) where
   is-stopped stored most (finished a s) r d cause place e p q =
       ap (stoppedBy (ended stored most results diagnostics (finished a s)) r d) e
   is-stopped stored most (stopped c x) r d cause place e p q =
-      let l : Lowered = record { reply = refused 0 0; results = results; diagnostics = diagnostics } in
+      let l : Outcome = record { reply = refused 0 0; results = results; diagnostics = diagnostics } in
       ap (λ n. stoppedBy l n (24 * most .diagnostics) (some (stopNumber c, x))) p
       ∙ ap (λ n. stoppedBy l r n (some (stopNumber c, x))) q
       ∙ ap (stoppedBy l r d) e
@@ -182,7 +182,7 @@ unfolding lowerIn
 stops-so s e results diagnostics r d =
     let book : List ℕ = bookOf false (s .book) in
     let most : Limits = limits (s .results) (s .diagnostics) in
-    let l : Lowered = ended (storedCount (settled (read book))) most results diagnostics (run most (lowerRecords (settled (read book)) (read book)) start) in
+    let l : Outcome = ended (storedCount (settled (read book))) most results diagnostics (run most (lowerRecords (settled (read book)) (read book)) start) in
     lower-in results diagnostics (s .results) (s .diagnostics) r d book
     ∙ ap (λ (f : Fate). refusedOr l results diagnostics (f .refusal)) e
     ∙ is-stopped

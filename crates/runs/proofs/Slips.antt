@@ -6,7 +6,7 @@ use mathlib.Core.List.{List, [], _∷_, _++_}
 use mathlib.Core.Path.{_≡_, refl, sym, subst, _∙_}
 use lib.Dec.{T, eqb, eqb-refl}
 use lib.ListN.{take}
-use Rattle.lower.specs.LowerBook.{Lowered, Reply, accepted, refused}
+use Rattle.lower.specs.LowerBook.{Outcome, Reply, accepted, refused}
 use Rattle.runs.specs.Compute.{computed}
 use Rattle.runs.specs.Claims.{standsAt, behindField}
 use Rattle.runs.specs.Known.{leaving, Answered}
@@ -46,7 +46,7 @@ answers-beside =
     & tt
 
 -- the numbers of a reply, and behind an accepting one the bytes of the records counted
-abbrev counted : Lowered → Reply → List ℕ
+abbrev counted : Outcome → Reply → List ℕ
 counted l (accepted r d n) = r ∷ d ∷ n ∷ take (24 * r) (l .results) ++ take (24 * d) (l .diagnostics)
 counted l (refused n p) = n ∷ p ∷ []
 
@@ -66,29 +66,29 @@ same-refl (x ∷ xs) = go (eqb x x) (eqb-refl x) (same-refl xs)
     go false t rest = t
 
 -- two lowerings that differ there are not the same
-differ : (x y : Lowered) → same (counted x (x .reply)) (counted y (y .reply)) ≡ false → x ≡ y → ⊥
+differ : (x y : Outcome) → same (counted x (x .reply)) (counted y (y .reply)) ≡ false → x ≡ y → ⊥
 differ x y e p =
     subst
     T
     e
     (subst
-    (λ (z : Lowered). T (same (counted x (x .reply)) (counted z (z .reply))))
+    (λ (z : Outcome). T (same (counted x (x .reply)) (counted z (z .reply))))
     p
     (same-refl (counted x (x .reply))))
 
 -- what the right answer leaves, and what the slip would leave
-abbrev right : Slip → List ℕ → List ℕ → Lowered
+abbrev right : Slip → List ℕ → List ℕ → Outcome
 right s = leaving (s .of .reply) (s .of .results) (s .of .diagnostics)
 
-abbrev wrong : Slip → List ℕ → List ℕ → Lowered
+abbrev wrong : Slip → List ℕ → List ℕ → Outcome
 wrong s = leaving (s .reply) (s .results) (s .diagnostics)
 
 not-so :
     (s : Slip) →
     Answered (s .of) →
     ((results diagnostics : List ℕ) →
-    let x : Lowered = right s results diagnostics in
-    let y : Lowered = wrong s results diagnostics in
+    let x : Outcome = right s results diagnostics in
+    let y : Outcome = wrong s results diagnostics in
     same (counted x (x .reply)) (counted y (y .reply)) ≡ false) →
     s .says (s .results) (s .diagnostics) ≡ true →
     s .says (s .of .results) (s .of .diagnostics) ≡ false →

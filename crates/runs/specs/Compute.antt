@@ -29,7 +29,7 @@ use Rattle.types.specs.Numbers.{registerDeclarations}
 use Rattle.types.specs.Resolve.{typeExpr, firstOf, findName, resolveName, findQualified, resolveQualified, findHead, resolveBy}
 use Rattle.types.specs.Resolve.{resolveType, resolveTypeExpr, resolveTypeExprWithSubstitution}
 use Rattle.types.specs.Alias.{lowerAlias}
-use Rattle.bodies.specs.Encoding.{limitIn, computeFieldEncoding, deltaRows, deltaInner, underDelta, encodingNumber}
+use Rattle.bodies.specs.Encoding.{limitIn, computeFieldEncoding, deltaRows, deltaInner, underInner, underDelta, encodingNumber}
 use Rattle.bodies.specs.Encoding.{encodingRecord}
 use Rattle.bodies.specs.Constraint.{whereExpr, lowerWhereBy, lowerWhereExpr}
 use Rattle.bodies.specs.Constant.{tellUnless, constantRecord, lowerConstant, lowerConstants, storedCount}
@@ -37,11 +37,11 @@ use Rattle.bodies.specs.Bodies.{unlessNone, lowerField, firstString, lowerTombs
 use Rattle.bodies.specs.Bodies.{lowerUnion, lowerNewtype, lowerDecl, lowerBodies}
 use Rattle.record.specs.Write.{withRecords, cleared}
 use Rattle.lower.specs.LowerBook.{lowerRecords, ended, lowerRead, lowerBook}
-use Rattle.lower.specs.LowerBook.{Lowered}
+use Rattle.lower.specs.LowerBook.{Outcome}
 use Rattle.runs.specs.Books.{blockBytes, withCheck, blocksFrom}
 
 -- a book's lowering; where this unfolds, all that follows does
-unfoldable pub computed : List ℕ → List ℕ → List ℕ → Lowered
+unfoldable pub computed : List ℕ → List ℕ → List ℕ → Outcome
 unfolding flatMap blockBytes withCheck blocksFrom littleEndian littleBytes decodeRecord encodeRecord recordAt words
     onesSum checksum blockWords blockCheck checkHolds signed asI64 word fitting checkedAdd checkedSub checkedMul
     checkedDiv any find keep keepWhile numberedFrom from allows table rowOf wellShaped childIn children isOf lengthFault
@@ -52,7 +52,7 @@ unfolding flatMap blockBytes withCheck blocksFrom littleEndian littleBytes decod
     pairNumber asNumber orElse lookup withStub withPair withAlias forEach emitType whole overOne overTwo poison
     parameters genericAliases plainAliases typeDeclarations genericAt generics registerDeclarations typeExpr firstOf
     findName resolveName findQualified resolveQualified findHead resolveBy resolveType resolveTypeExpr
-    resolveTypeExprWithSubstitution lowerAlias limitIn computeFieldEncoding deltaRows deltaInner underDelta
+    resolveTypeExprWithSubstitution lowerAlias limitIn computeFieldEncoding deltaRows deltaInner underInner underDelta
     encodingNumber encodingRecord whereExpr lowerWhereBy lowerWhereExpr tellUnless constantRecord lowerConstant
     lowerConstants storedCount unlessNone lowerField firstString lowerTombstone lowerVariant lowerItem lowerMessage
     lowerUnion lowerNewtype lowerDecl lowerBodies lowerRecords withRecords cleared ended lowerRead lowerBook

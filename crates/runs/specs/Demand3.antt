@@ -16,7 +16,7 @@ use Rattle.constants.specs.Eval.{empty}
 use Rattle.constants.specs.Order.{Constant, Settled, once, outcome}
 use Rattle.constants.specs.Leads.{LiesOnRing, LeadsIntoRing}
 use Rattle.constants.specs.OfBook.{constants, settled}
-use Rattle.lower.specs.LowerBook.{Lowered, lowerRead, lowerBook}
+use Rattle.lower.specs.LowerBook.{Outcome, lowerRead, lowerBook}
 use Rattle.lower.specs.Laws.{IsAccepted}
 use Rattle.constants.specs.Demand3.{StoredFor, DeclaresAllOf, AddsNoneTo}
 use Rattle.lower.specs.Demand3.{AnyLowering, Stands, OfBoth, Demand3}
@@ -110,10 +110,10 @@ ring =
     ∷ []))
 
 -- Their lowerings: the second of two is lent other slices than the first, longer ones that hold other bytes
-abbrev pub lowered : List ℕ → Lowered
+abbrev pub lowered : List ℕ → Outcome
 lowered book = lowerBook book (replicate 480 0) (replicate 24 7)
 
-abbrev pub elsewhere : List ℕ → Lowered
+abbrev pub elsewhere : List ℕ → Outcome
 elsewhere book = lowerBook book (replicate 700 255) (replicate 30 9)
 
 -- The wrong lowerings fail it

@@ -11,7 +11,7 @@ use Rattle.record.specs.declared.Record.{Record}
 use Rattle.book.specs.Lists.{All}
 use Rattle.book.specs.Outline.{read}
 use Rattle.record.specs.Write.{withRecords}
-use Rattle.lower.specs.LowerBook.{Reply, accepted, Lowered, lowerBook}
+use Rattle.lower.specs.LowerBook.{Reply, accepted, Outcome, lowerBook}
 use Rattle.runs.specs.Books.{bookOf, rec}
 use Rattle.runs.specs.Claims.{Claim, minus, stored, withoutValue, silent, oneMessage, noMessage}
 use Rattle.runs.specs.Claims.{newtypeOver, u8, number, arrayOf, mapOf, poison, deltaOver, limited, varint}
@@ -26,7 +26,7 @@ pub record Known : Type 0 where
   pub says : List Claim
 
 -- a reply, and two slices that have records from their start on and are else as lent
-abbrev pub leaving : Reply → List Record → List Record → List ℕ → List ℕ → Lowered
+abbrev pub leaving : Reply → List Record → List Record → List ℕ → List ℕ → Outcome
 leaving reply rs ds results diagnostics =
     record { reply = reply; results = withRecords rs results; diagnostics = withRecords ds diagnostics }
 

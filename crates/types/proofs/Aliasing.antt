@@ -20,7 +20,7 @@ use Rattle.types.specs.declared.Scope.{Scope}
 use Rattle.types.specs.declared.Stop as stops
 use Rattle.types.specs.declared.Lowered as done
 use Rattle.types.specs.declared.Lowered.the-variants.{Done, Stopped}
-use Rattle.types.specs.declared.Aliases.the-variants.{Lowered, Refused}
+use Rattle.types.specs.declared.Part.the-variants.{Lowered, Refused}
 use Rattle.types.specs.Lowering.{Limits, State, Out, run}
 use Rattle.types.specs.Events.{goOn}
 use Rattle.types.specs.Resolved.{Names, POISON}
@@ -29,7 +29,8 @@ use Rattle.types.specs.Numbers.{plainAliases}
 use Rattle.types.specs.Alias.{lowerAlias}
 use Rattle.types.specs.Standing.{Lent, Held, From, Stands}
 use Rattle.types.specs.Registered.{IsAlias}
-use Rattle.types.specs.Aliased.{isPlainAlias, Goes, goes, halts, SameBut, LowersAlias, Unlowered, GoesOn, goes-on, stops-at, LowersAliases}
+use Rattle.types.specs.Lowers.{Goes, goes, halts, GoesOn, goes-on, stops-at}
+use Rattle.types.specs.Aliased.{isPlainAlias, SameBut, LowersAlias, Unlowered, LowersAliases}
 use Rattle.types.proofs.Adds.{runs-in-turn}
 use Rattle.types.proofs.Typing.{other-name}
 use Rattle.types.proofs.Emitting.{limitsOf}
@@ -76,7 +77,7 @@ module _ (book : Book) where
       (low, omega arith, eqb-true _ 23 is)
 
 -- one step for each of some records: the first, and then the others
-each-run :
+pub each-run :
     (most : Limits) (f : ℕ → Step Unit) (n : ℕ) (ns : List ℕ) (k : Names) (s : State) →
     run most (forEach f (n ∷ ns) k) s ≡ goOn (run most (f n k) s) (λ x s. run most (forEach f ns (x .1)) s)
 unfolding forEach
@@ -110,7 +111,7 @@ went :
 unfolding goOn
 went (goes from) e = record { place = _; names = _; state = _; from = from; same = e }
 
-halted :
+pub halted :
     {bytes : List ℕ} {scope : Scope} {lent : Lent} {n : ℕ} {aliases : List ℕ} {h : Held} {c : stops.Stop} {o : Out (Unit × Names)}
     (f : Unit × Names → State → Out (Unit × Names)) → Goes bytes scope lent n aliases h (Stopped c) o →
     GoesOn bytes scope lent aliases h (Refused c n) (goOn o f)

@@ -23,11 +23,12 @@ use Rattle.types.specs.declared.Stop as stops
 use Rattle.types.specs.declared.Stop.the-variants.{Full}
 use Rattle.types.specs.declared.Resolved as answers
 use Rattle.types.specs.declared.Resolved.the-variants.{Root, Stopped}
+use Rattle.types.specs.declared.Lowered.the-variants as lowered
 use Rattle.types.specs.Lowering.{Lowering, done, diagnostic, result, andThen, Limits, State, withResult, withDiagnostic, run, usedLimits}
 use Rattle.types.specs.Resolved.{ResolvedType, primitive, subByte, semantic, named, oneChild, twoChildren, inlineBits, Names, POISON}
 use Rattle.types.specs.Step.{Resolved, bare, message, emitType, whole, overOne, overTwo, poison}
 use Rattle.types.specs.Records.{below, StandsAt}
-use Rattle.types.specs.Standing.{stopOf, Lent, oneMore, oneTold, emitted, IsResult, Held, held, AliasIs, From, Left, Ends, ends, refuses}
+use Rattle.types.specs.Standing.{stopOf, Lent, oneMore, oneTold, emitted, told, IsResult, Held, held, AliasIs, From, Left, Ends, ends, refuses}
 use Rattle.types.proofs.Run.{tell-on, tell-out, write-on, write-out}
 
 -- what stands among the results stands there when more come
@@ -73,6 +74,15 @@ root-emitted false ctx e = let z : _≡_ {A = ℕ} 0 1 = cc in absurd (omega ari
 pub stop-emitted : (b : Bool) (ctx : LowerCtx) {c : stops.Stop} → emitted b ctx ≡ Stopped c → (b ≡ false) × (c ≡ Full)
 stop-emitted true ctx e = let z : _≡_ {A = ℕ} 0 1 = cc in absurd (omega arith)
 stop-emitted false ctx e = (refl, cc)
+
+pub done-told :
+    (b : Bool) (ctx : LowerCtx) {next : LowerCtx} → told b ctx ≡ lowered.Done next → (b ≡ true) × (next ≡ oneTold ctx)
+done-told true ctx e = (refl, cc)
+done-told false ctx e = let z : _≡_ {A = ℕ} 0 1 = cc in absurd (omega arith)
+
+pub stop-told : (b : Bool) (ctx : LowerCtx) {c : stops.Stop} → told b ctx ≡ lowered.Stopped c → (b ≡ false) × (c ≡ Full)
+stop-told true ctx e = let z : _≡_ {A = ℕ} 0 1 = cc in absurd (omega arith)
+stop-told false ctx e = (refl, cc)
 
 -- what is held, with these results
 abbrev pub withResults : Held → List ℕ → Held
@@ -275,10 +285,10 @@ module _
 -- a message, and poison behind it; refused where the message has no room
 module _
     {bytes : List ℕ} {scope : Scope} {lent : Lent} {place : ℕ} {aliases : List ℕ} {ctx : LowerCtx} {h : Held} {k : Names} {s : State}
-    (f : From bytes scope lent place aliases ctx h k s) (m a b class : ℕ) (span : Span) {told : Record} (e : told ≡ message m a b class span)
+    (f : From bytes scope lent place aliases ctx h k s) (m a b class : ℕ) (span : Span) {r₀ : Record} (e : r₀ ≡ message m a b class span)
   where
     pub not-poisoned :
-        {d : List ℕ} → ltb (ctx .diagnostics) (roomFor 256 (h .diagnostics)) ≡ false → d ≡ put 256 (h .diagnostics) (ctx .diagnostics) told →
+        {d : List ℕ} → ltb (ctx .diagnostics) (roomFor 256 (h .diagnostics)) ≡ false → d ≡ put 256 (h .diagnostics) (ctx .diagnostics) r₀ →
         Ends bytes scope lent place aliases (held (h .numbers) (h .pairs) (h .results) d) (Stopped Full)
         (run (limitsOf lent) (poison m a b class span k) s)
     unfolding poison andThen
@@ -287,7 +297,7 @@ module _
     pub poison-ends :
         {d : List ℕ} {r : Record} {x : answers.Resolved} {l : List ℕ} →
         ltb (ctx .diagnostics) (roomFor 256 (h .diagnostics)) ≡ true →
-        d ≡ put 256 (h .diagnostics) (ctx .diagnostics) told →
+        d ≡ put 256 (h .diagnostics) (ctx .diagnostics) r₀ →
         r ≡ namedRecord POISON →
         Emitted (oneTold ctx) (h .results) r x l →
         Ends bytes scope lent place aliases (held (h .numbers) (h .pairs) l d) x (run (limitsOf lent) (poison m a b class span k) s)

@@ -28,7 +28,8 @@ use Rattle.types.specs.Resolve.{resolveType}
 use Rattle.types.specs.Alias.{lowerAlias}
 use Rattle.types.specs.Standing.{stopOf, Lent, Held, IsResult, AliasIs, From, Ends, refuses, Resolves}
 use Rattle.types.specs.Registered.{IsAlias}
-use Rattle.types.specs.Aliased.{aliasRecord, finishAlias, Goes, goes, halts, FinishesAlias, LowersAlias}
+use Rattle.types.specs.Lowers.{Goes, goes, halts}
+use Rattle.types.specs.Aliased.{aliasRecord, finishAlias, FinishesAlias, LowersAlias}
 use Rattle.types.proofs.Adds.{runs-in-turn}
 use Rattle.types.proofs.Run.{write-out}
 use Rattle.types.proofs.Steps.{SizedSpan}
@@ -49,7 +50,7 @@ module _
     {bytes : List ℕ} {scope : Scope} {lent : Lent} {place : ℕ} {aliases : List ℕ} {ctx : LowerCtx} {h : Held} {k : Names} {s : State}
     (f : From bytes scope lent place aliases ctx h k s) where
   -- another declaration is being lowered
-  moved-from : (n : ℕ) → From bytes scope lent n aliases ctx h k (moved n s)
+  pub moved-from : (n : ℕ) → From bytes scope lent n aliases ctx h k (moved n s)
   moved-from n =
       record {
         results-are = f .results-are;
@@ -158,7 +159,7 @@ lower-run most book n k s =
     runs-in-turn _ _ most (resolveType book ((book ! n) .b) k) (λ x. finishAlias (book ! n) (x .0) (x .1)) (moved n s)
 
 -- a refusal of its type is one of the alias
-stays-refused :
+pub stays-refused :
     {bytes : List ℕ} {scope : Scope} {lent : Lent} {place : ℕ} {aliases : List ℕ} {h : Held} {c : stops.Stop} {out : Out (Resolved × Names)}
     (f : Resolved × Names → State → Out (Unit × Names)) → Ends bytes scope lent place aliases h (Stopped c) out →
     Goes bytes scope lent place aliases h (lowered.Stopped c) (goOn out f)
@@ -166,7 +167,7 @@ unfolding goOn
 stays-refused f (refuses e p l) = halts e p l
 
 -- a type that is resolved stands where the results ended before
-stands-so :
+pub stands-so :
     (most : Limits) (book : Book) (n : ℕ) (k : Names) (s : State) {k′ : Names} {s′ : State} {t : Resolved} {first root : ℕ} → first ≡ length (s .results) → root ≡ t .root →
     run most (resolveType book n k) s ≡ finished (t, k′) s′ → StandsAt (s′ .results) first root (t .type)
 unfolding resolveType

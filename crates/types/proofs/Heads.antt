@@ -1,7 +1,7 @@
 -- Generic aliases: what the book says of them, and what the head of a generic is found to be.
 -- Assumes nothing.
 use Prim.Native.Nat.{ℕ, zero, suc, _+_, _-_, _/_, _%_, _≤_, _<_}
-use mathlib.Core.Bool.{Bool, true, false, cond, _&&_, _||_, false≢true}
+use mathlib.Core.Bool.{Bool, true, false, cond, _||_, false≢true}
 use mathlib.Core.List.{List, [], _∷_, map, List·Memᴰ, List·Memᴰ·head, List·Memᴰ·tail}
 use mathlib.Core.Option.{Option, some, none, Option·map}
 use mathlib.Core.Path.{_≡_, refl, sym, ap, _∙_, subst}
@@ -12,16 +12,17 @@ use lib.ListN.{length, getD}
 use Rattle.record.specs.declared.Record.{Record}
 use Rattle.record.specs.declared.type_id.TypeId.{TypeId}
 use Rattle.book.specs.Lists.{All, find, keep, numberedFrom}
-use Rattle.book.specs.Shape.{type, declaration, item, name, child, unused, Row, row, table, rowOf, fits, wellShaped, nameIn, namesBy, names}
-use Rattle.book.specs.Shape.{Child, childIn, childrenBy, children}
+use Rattle.book.specs.Shape.{type, declaration, item, name, child, unused, row, table, nameIn}
+use Rattle.book.specs.Shape.{childIn}
 use Rattle.book.specs.Blocks.{records}
 use Rattle.book.specs.Faults.{recordOf, isKind}
 use Rattle.book.specs.Outline.{Book, read, numbersOf, notes}
-use Rattle.book.specs.Trees.{IsChild, Readable}
+use Rattle.book.specs.Trees.{Readable}
 use Rattle.book.proofs.Lists.{If, all-keep, all-keep-while, all-drop}
 use Rattle.book.proofs.Members.{mem-keep, mem-up-to}
 use Rattle.book.proofs.Scans.{find-hit, find-miss}
-use Rattle.book.proofs.Trees.{withKind, both-not}
+use Rattle.book.proofs.Soles.{children-by-row, names-by-row}
+use Rattle.book.proofs.Trees.{both-not}
 use Rattle.types.specs.declared.Scope.{Scope}
 use Rattle.types.specs.declared.find.Number as numbers
 use Rattle.types.specs.declared.find.Number.the-variants.{Is, Nothing}
@@ -55,37 +56,6 @@ module _ {A B : Type 0} (f : B → A) where
       (find-miss (λ x. eqb (x .0) k) (n, f x) (numberedFrom (suc n) (map f l)) (ne-eqb n k (λ e. h 0 (omega arith) (omega arith))))
       ∙ no-entry (suc n) k l (λ i less e. h (suc i) (omega arith) (omega arith))
 
--- the target of an alias (23) is its child, a type
-module _ (P : Child → Type 0) (r : Record) where
-  abbrev Targets : ℕ → Type 0
-  Targets kind = wellShaped (withKind kind r) ≡ true → All P (children (withKind kind r)) → P (record { group = type; number = r .b })
-
-  targets : r .kind ≡ 23 → Targets (r .kind)
-  unfolding wellShaped children rowOf find table childIn
-  targets e = subst Targets (sym e) (go (leb 0 (r .sub) && leb (r .sub) 0))
-    where
-      go :
-          (b : Bool) →
-          let o : Option Row = elim b [ true ↦ some (row declaration 23 0 0 name (child type) unused unused) | false ↦ none ] in
-          fits (withKind 23 r) o ≡ true → All P (childrenBy (withKind 23 r) o) → P (record { group = type; number = r .b })
-      go true s p = p .0
-      go false s p = absurd (false≢true s)
-
--- a type parameter (30) is a name
-abbrev Named : Record → ℕ → Type 0
-Named r kind = wellShaped (withKind kind r) ≡ true → All (λ x. x < 4096) (names (withKind kind r)) → r .a < 4096
-
-named : (r : Record) → r .kind ≡ 30 → Named r (r .kind)
-unfolding wellShaped names rowOf find table nameIn
-named r e = subst (Named r) (sym e) (go (leb 0 (r .sub) && leb (r .sub) 0))
-  where
-    go :
-        (b : Bool) →
-        let o : Option Row = elim b [ true ↦ some (row item 30 0 0 name unused unused unused) | false ↦ none ] in
-        fits (withKind 30 r) o ≡ true → All (λ x. x < 4096) (namesBy (withKind 30 r) o) → r .a < 4096
-    go true s p = p .0
-    go false s p = absurd (false≢true s)
-
 -- what holds of each element by its number holds of each
 all-at-numbers : {A : Type 0} (P : A → Type 0) (l : List A) (d : A) → ((n : ℕ) → n < length l → P (getD l n d)) → All P l
 all-at-numbers P [] d h = tt
@@ -112,10 +82,10 @@ parameters-below (r ∷ rs) h = go (isKind 30 r) refl (parameters-below rs (h .1
 module _ {bytes : List ℕ} (readable : Readable bytes) where
   -- each record that is a type parameter is a name, so the parameter of an alias is one
   each-named : All (λ r. r .kind ≡ 30 → r .a < 4096) (records bytes)
-  unfolding recordOf
+  unfolding keep table nameIn recordOf
   each-named =
       all-at-numbers (λ r. r .kind ≡ 30 → r .a < 4096) (records bytes) _
-      (λ n less e. let w = readable .well-formed n less in named (recordOf (records bytes) n) e (w .shaped) (w .named))
+      (λ n less e. names-by-row (records bytes) (readable .well-formed) n less (row item 30 0 0 name unused unused unused) e refl .0)
 
   generic-parameter : (n : ℕ) → genericAt (read bytes) n .parameter < 4096
   unfolding genericAt parameters notes read
@@ -129,9 +99,9 @@ module _ {bytes : List ℕ} (readable : Readable bytes) where
 
   -- the target of an alias
   pub target-is : (n : ℕ) → n < length (records bytes) → recordOf (records bytes) n .kind ≡ 23 → IsType bytes (recordOf (records bytes) n .b)
+  unfolding keep table childIn
   target-is n less kind =
-      let w = readable .well-formed n less in
-      let c = targets (IsChild (records bytes) n) (recordOf (records bytes) n) kind (w .shaped) (w .children-are) in
+      let c = children-by-row (records bytes) (readable .well-formed) n less (row declaration 23 0 0 name (child type) unused unused) kind refl .0 in
       record { readable = readable; here = omega (arith, c .earlier, less, readable .counted); of-group = c .of-group }
 
   -- a generic alias of the book

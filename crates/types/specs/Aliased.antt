@@ -11,18 +11,16 @@ use Rattle.book.specs.Faults.{isKind}
 use Rattle.book.specs.Outline.{Book, read, _!_, notes}
 use Rattle.types.specs.declared.LowerCtx.{LowerCtx}
 use Rattle.types.specs.declared.Scope.{Scope}
-use Rattle.types.specs.declared.Stop as stops
 use Rattle.types.specs.declared.Lowered as done
-use Rattle.types.specs.declared.Lowered.the-variants.{Done, Stopped}
-use Rattle.types.specs.declared.Aliases as all
-use Rattle.types.specs.declared.Aliases.the-variants.{Lowered, Refused}
-use Rattle.types.specs.Lowering.{State, Stop, Out, finished, stopped, run, usedLimits}
+use Rattle.types.specs.declared.Part.{Part}
+use Rattle.types.specs.Lowering.{State, run, usedLimits}
 use Rattle.types.specs.Resolved.{Names, POISON, withAlias}
 use Rattle.types.specs.Step.{Step, Resolved, _>>_, emit, change, forEach}
 use Rattle.types.specs.Numbers.{plainAliases}
 use Rattle.types.specs.Alias.{lowerAlias}
 use Rattle.types.specs.Records.{StandsAt}
-use Rattle.types.specs.Standing.{stopOf, Lent, Held, From, Left}
+use Rattle.types.specs.Standing.{Lent, Held, From}
+use Rattle.types.specs.Lowers.{Goes, GoesOn}
 
 -- the result record of a plain alias
 abbrev pub aliasRecord : Record → ℕ → Record
@@ -35,19 +33,6 @@ isPlainAlias book n = isKind 23 (book ! n) && not (any (isKind 30) (notes book n
 -- what is left to do when its type is resolved
 abbrev pub finishAlias : Record → Resolved → Step Unit
 finishAlias r t = emit (aliasRecord r (t .root)) >> change (withAlias (r .a) (t .type))
-
--- an answer stands for how the lowering of a declaration ends
-pub data Goes (bytes : List ℕ) (scope : Scope) (lent : Lent) (place : ℕ) (aliases : List ℕ) (h : Held) : done.Lowered → Out (Unit × Names) → Type 0 where
-  goes :
-      {ctx : LowerCtx} {k : Names} {s : State} →
-      From bytes scope lent place aliases ctx h k s →
-      Goes bytes scope lent place aliases h (Done ctx) (finished (tt, k) s)
-  halts :
-      {c : stops.Stop} {x : Stop} {p : ℕ} →
-      stopOf c ≡ x →
-      p ≡ place →
-      Left lent h →
-      Goes bytes scope lent place aliases h (Stopped c) (stopped x p)
 
 -- a type was resolved, its records standing from `first` on: the alias is finished, if its name had none
 abbrev pub FinishesAlias : Record → ℕ → ℕ → List ℕ → LowerCtx → Held → done.Lowered → List ℕ → Held → Type 0
@@ -75,20 +60,8 @@ LowersAlias bytes scope n aliases ctx h x aliases′ h′ =
 abbrev pub Unlowered : List ℕ → List ℕ → Type 0
 Unlowered bytes aliases = (n : ℕ) → List·Memᴰ n (plainAliases (read bytes)) → getD aliases ((read bytes ! n) .a) 0 ≡ POISON
 
--- an answer stands for how the lowering of all plain aliases ends
-pub data GoesOn (bytes : List ℕ) (scope : Scope) (lent : Lent) (aliases : List ℕ) (h : Held) : all.Aliases → Out (Unit × Names) → Type 0 where
-  goes-on :
-      {place : ℕ} {ctx : LowerCtx} {k : Names} {s : State} →
-      From bytes scope lent place aliases ctx h k s →
-      GoesOn bytes scope lent aliases h (Lowered ctx) (finished (tt, k) s)
-  stops-at :
-      {c : stops.Stop} {x : Stop} {p : ℕ} →
-      stopOf c ≡ x →
-      Left lent h →
-      GoesOn bytes scope lent aliases h (Refused c p) (stopped x p)
-
 -- all plain aliases are lowered, in book order
-abbrev pub LowersAliases : List ℕ → Scope → List ℕ → LowerCtx → Held → all.Aliases → List ℕ → Held → Type 0
+abbrev pub LowersAliases : List ℕ → Scope → List ℕ → LowerCtx → Held → Part → List ℕ → Held → Type 0
 LowersAliases bytes scope aliases ctx h x aliases′ h′ =
     (lent : Lent) (place : ℕ) (k : Names) (s : State) →
     From bytes scope lent place aliases ctx h k s →

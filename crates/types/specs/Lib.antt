@@ -10,4 +10,5 @@ pub mod Standing
 pub mod Finds
 pub mod Steps
 pub mod Registered
+pub mod Lowers
 pub mod Aliased

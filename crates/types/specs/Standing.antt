@@ -21,6 +21,8 @@ use Rattle.types.specs.declared.Stop as stops
 use Rattle.types.specs.declared.Stop.the-variants.{TooDeep, Full}
 use Rattle.types.specs.declared.Resolved as answers
 use Rattle.types.specs.declared.Resolved.the-variants.{Root, Stopped}
+use Rattle.types.specs.declared.Lowered as done
+use Rattle.types.specs.declared.Lowered.the-variants as lowered
 use Rattle.types.specs.Lowering.{usedLimits, State, Stop, tooDeep, full, Out, finished, stopped, run}
 use Rattle.types.specs.Resolved.{ResolvedType, Names, POISON, ownNumber, aliasOf}
 use Rattle.types.specs.Step.{Step, Resolved}
@@ -54,6 +56,11 @@ oneNumber ctx = record { next = ctx .next + 1; results = ctx .results; diagnosti
 abbrev pub emitted : Bool → LowerCtx → answers.Resolved
 emitted true ctx = Root (ctx .results) (oneMore ctx)
 emitted false ctx = Stopped Full
+
+-- and the same for one diagnostic more
+abbrev pub told : Bool → LowerCtx → done.Lowered
+told true ctx = lowered.Done (oneTold ctx)
+told false ctx = lowered.Stopped Full
 
 -- a result record: its fields are within their widths, and a type number is one of 32 bits
 pub record IsResult (r : Record) : Type 0 where

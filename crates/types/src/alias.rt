@@ -9,10 +9,10 @@ ghost use Rattle.book.specs.Trees.{Readable};
 ghost use Rattle.types.specs.Standing.{held, Reads, Stands};
 ghost use Rattle.types.specs.Registered.{IsAlias};
 ghost use Rattle.types.specs.Aliased.{aliasRecord, isPlainAlias, FinishesAlias, SameBut, LowersAlias, Unlowered, LowersAliases};
-use crate::Aliases;
 use crate::LowerCtx;
 use crate::Lowered;
 use crate::NAMES;
+use crate::Part;
 use crate::RECORDS;
 use crate::RESULTS;
 use crate::Resolved;
@@ -136,7 +136,7 @@ pub fn lower_aliases(
     pairs: &mut [u32; RESULTS],
     results: &mut [u8],
     diagnostics: &mut [u8],
-) -> Aliases
+) -> Part
     requires { ⌜ (count ≡ recordCount (now book)) × Reads (now book) scope (now ambiguous) (now generics) × Unlowered (now book) (now aliases) ⌝ }
     requires { ⌜ Stands (now book) scope (now aliases) ctx (held (now numbers) (now pairs) (now results) (now diagnostics)) ⌝ }
     ensures { λ r. ⌜ LowersAliases (now (book .entry)) scope (now (aliases .entry)) ctx
@@ -164,10 +164,10 @@ pub fn lower_aliases(
                 Lowered::Done(next) => {
                     behind = next;
                 }
-                Lowered::Stopped(stop) => return Aliases::Refused { stop, place: n },
+                Lowered::Stopped(stop) => return Part::Refused { stop, place: n },
             }
         }
         n += 1;
     }
-    Aliases::Lowered(behind)
+    Part::Lowered(behind)
 }

@@ -5,8 +5,8 @@ mod copy;
 mod find;
 mod leaf;
 pub mod register;
-mod resolve;
-mod write;
+pub mod resolve;
+pub mod write;
 
 // Names are below this number, a book has at most so many records, and so many results are written.
 pub const NAMES: usize = 4096;
@@ -16,12 +16,12 @@ pub const RECORDS: usize = 1344;
 pub const RESULTS: usize = 2048;
 
 // The most records that are written to the two slices.
-const MOST_RESULTS: u16 = 2048;
+pub const MOST_RESULTS: u16 = 2048;
 
-const MOST_DIAGNOSTICS: u16 = 256;
+pub const MOST_DIAGNOSTICS: u16 = 256;
 
 // The number of a type that could not be resolved. It is no name's own number, so tables have it for none.
-const POISON_TYPE_ID: u32 = 4_294_967_295;
+pub const POISON_TYPE_ID: u32 = 4_294_967_295;
 
 // Counters of numbers, results and diagnostics.
 pub struct LowerCtx {
@@ -50,14 +50,14 @@ pub enum Resolved {
     Stopped(Stop),
 }
 
-// What is behind a declaration that was lowered: the counters; or why it was not.
+// What is behind a declaration or an item that was lowered: the counters; or why it was not.
 pub enum Lowered {
     Done(LowerCtx),
     Stopped(Stop),
 }
 
-// What is behind all plain aliases of a book: the counters; or why and where the lowering stopped.
-pub enum Aliases {
+// What is behind a part of a book that was lowered: the counters; or why and where the lowering stopped.
+pub enum Part {
     Lowered(LowerCtx),
     Refused { stop: Stop, place: u16 },
 }

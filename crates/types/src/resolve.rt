@@ -302,7 +302,7 @@ fn resolve_type_expr_with_substitution(
 }
 
 // The type at record n of a declaration or an item.
-pub(crate) fn resolve_type(
+pub fn resolve_type(
     book: &[u8],
     n: u16,
     scope: Scope,

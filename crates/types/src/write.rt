@@ -7,8 +7,9 @@ ghost use lib.Dec.{ltb};
 ghost use Rattle.record.specs.Write.{roomFor, put};
 ghost use Rattle.types.specs.Step.{bare, message, poison};
 ghost use Rattle.types.specs.declared.Scope.{Scope};
-ghost use Rattle.types.specs.Standing.{emitted, held, Resolves};
+ghost use Rattle.types.specs.Standing.{emitted, told, held, Resolves};
 use crate::LowerCtx;
+use crate::Lowered;
 use crate::MOST_DIAGNOSTICS;
 use crate::MOST_RESULTS;
 use crate::POISON_TYPE_ID;
@@ -21,7 +22,7 @@ use record::type_id::TypeId;
 use record::write;
 
 // A result record without a span.
-pub(crate) fn bare(kind: u8, sub: u8, a: u16, b: u16, v: u64) -> Record
+pub fn bare(kind: u8, sub: u8, a: u16, b: u16, v: u64) -> Record
     ensures { λ r. ⌜ r ≡ bare kind sub a b 0 v ⌝ }
 {
     Record {
@@ -36,7 +37,7 @@ pub(crate) fn bare(kind: u8, sub: u8, a: u16, b: u16, v: u64) -> Record
 }
 
 // A diagnostic record.
-pub(crate) fn message(m: u8, a: u16, b: u16, class: u64, span: Span) -> Record
+pub fn message(m: u8, a: u16, b: u16, class: u64, span: Span) -> Record
     ensures { λ r. ⌜ r ≡ message m a b class span ⌝ }
 {
     Record {
@@ -51,7 +52,7 @@ pub(crate) fn message(m: u8, a: u16, b: u16, class: u64, span: Span) -> Record
 }
 
 // Writes one more result.
-pub(crate) fn emit(r: Record, ctx: LowerCtx, results: &mut [u8]) -> Resolved
+pub fn emit(r: Record, ctx: LowerCtx, results: &mut [u8]) -> Resolved
     ensures { λ x. ⌜ x ≡ emitted (ltb (ctx .results) (roomFor 2048 (now (results .entry)))) ctx ⌝ }
     ensures { λ _. ⌜ now (results .exit) ≡ put 2048 (now (results .entry)) (ctx .results) r ⌝ }
 {
@@ -64,6 +65,22 @@ pub(crate) fn emit(r: Record, ctx: LowerCtx, results: &mut [u8]) -> Resolved
         Resolved::Root(ctx.results, behind)
     } else {
         Resolved::Stopped(Stop::Full)
+    }
+}
+
+// Writes one more diagnostic.
+pub fn tell(r: Record, ctx: LowerCtx, diagnostics: &mut [u8]) -> Lowered
+    ensures { λ x. ⌜ x ≡ told (ltb (ctx .diagnostics) (roomFor 256 (now (diagnostics .entry)))) ctx ⌝ }
+    ensures { λ _. ⌜ now (diagnostics .exit) ≡ put 256 (now (diagnostics .entry)) (ctx .diagnostics) r ⌝ }
+{
+    if write::put_record(diagnostics, MOST_DIAGNOSTICS, ctx.diagnostics, r) {
+        Lowered::Done(LowerCtx {
+            next: ctx.next,
+            results: ctx.results,
+            diagnostics: ctx.diagnostics + 1,
+        })
+    } else {
+        Lowered::Stopped(Stop::Full)
     }
 }
 
@@ -82,14 +99,8 @@ pub(crate) fn poison(
         Resolves bytes scope aliases ctx (held numbers pairs (now (results .entry)) (now (diagnostics .entry)))
         (poison m a b class span) x (held numbers pairs (now (results .exit)) (now (diagnostics .exit)))) ⌝ }
 {
-    let told = message(m, a, b, class, span);
-    if !write::put_record(diagnostics, MOST_DIAGNOSTICS, ctx.diagnostics, told) {
-        return Resolved::Stopped(Stop::Full);
+    match tell(message(m, a, b, class, span), ctx, diagnostics) {
+        Lowered::Done(behind) => emit(type_id::named(TypeId(POISON_TYPE_ID)), behind, results),
+        Lowered::Stopped(stop) => Resolved::Stopped(stop),
     }
-    let behind = LowerCtx {
-        next: ctx.next,
-        results: ctx.results,
-        diagnostics: ctx.diagnostics + 1,
-    };
-    emit(type_id::named(TypeId(POISON_TYPE_ID)), behind, results)
 }

@@ -83,17 +83,6 @@ impl Answer {
         let written = (take(list, follow.0)?.to_vec(), take(list, follow.1)?.to_vec());
         Some(Answer { name, book, lent: (number(28) as usize, number(32) as usize), reply, written })
     }
-
-    /// Blocks whose check is looked at, and records that are read back.
-    fn looked_at(&self) -> (usize, usize) {
-        let blocks = self.book.len() / 512;
-        match self.reply {
-            Reply::Refused { number: 1, .. } => (0, 0),
-            Reply::Refused { number: 2, place } => (place as usize + 1, 21 * place as usize),
-            Reply::Refused { number: 3, place } => (place as usize + 1, 21 * (place as usize + 1)),
-            _ => (blocks, 21 * blocks),
-        }
-    }
 }
 
 /// The totals of a list whose answers are right.
@@ -101,34 +90,33 @@ impl Answer {
 pub struct Totals {
     pub answers: usize,
     pub accepted: usize,
-    /// accepted, or refused by 9 or 10
-    lowered: usize,
-    blocks: usize,
-    records: usize,
+    /// what the replies to the accepted books count
+    results: usize,
+    diagnostics: usize,
+    constants: usize,
 }
 
 impl Totals {
     fn count(&mut self, a: &Answer) {
-        let (blocks, records) = a.looked_at();
         self.answers += 1;
-        self.accepted += matches!(a.reply, Reply::Accepted { .. }) as usize;
-        self.lowered += !matches!(a.reply, Reply::Refused { number: 1..=8, .. }) as usize;
-        self.blocks += blocks;
-        self.records += records;
+        if let Reply::Accepted { results, diagnostics, constants } = a.reply {
+            self.accepted += 1;
+            self.results += results as usize;
+            self.diagnostics += diagnostics as usize;
+            self.constants += constants as usize;
+        }
     }
 
     /// What `replay` prints of the list.
     pub fn says(&self) -> String {
-        let Totals { answers, accepted, lowered, blocks, records } = self;
+        let Totals { answers, accepted, results, diagnostics, constants } = self;
         let lines = [
             ("answers", *answers),
             ("accepted", *accepted),
             ("refused", answers - accepted),
-            ("read", *answers),
-            ("constants", *accepted),
-            ("aliases", *lowered),
-            ("blocks", *blocks),
-            ("records", *records),
+            ("results", *results),
+            ("diagnostics", *diagnostics),
+            ("constants", *constants),
             ("wrong", 0),
         ];
         lines.iter().map(|(word, n)| format!("{word} {n}\n")).collect()

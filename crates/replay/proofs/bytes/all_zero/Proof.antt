@@ -33,7 +33,7 @@ unfolding zeros
 returns-2 c =
     let l = c .before in
     let s = now (l .before .args .s) in
-    sym (l .loop .inv .1 ∙ ap zeros (none-left s (l .loop .i) (c .loop-test .left) (l .loop .inv .0)))
+    sym (l .loop .inv .1 ∙ ap zeros (none-left s (l .loop .i) (c .loop-test .left)))
 
 pub all-zero-spec : {M : Type 1} → statement M
 all-zero-spec =

@@ -50,7 +50,7 @@ unfolding printed
 returns-3 c =
     let l = c .before in
     let s = now (l .before .args .s) in
-    let none : printed (drop (l .loop .i) s) ≡ 0 = ap printed (none-left s (l .loop .i) (c .loop-test .left) (l .loop .inv .0)) in
+    let none : printed (drop (l .loop .i) s) ≡ 0 = ap printed (none-left s (l .loop .i) (c .loop-test .left)) in
     omega arith
 
 pub printed-length-spec : {M : Type 1} → statement M

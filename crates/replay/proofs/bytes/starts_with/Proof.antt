@@ -42,7 +42,7 @@ unfolding startsWith
 returns-3 c =
     let l = c .before in
     let a = l .before .before .args in
-    sym (l .loop .inv .1 ∙ rw (none-left (now (a .xs)) (l .loop .i) (c .loop-test .left) (l .loop .inv .0)))
+    sym (l .loop .inv .1 ∙ rw (none-left (now (a .xs)) (l .loop .i) (c .loop-test .left)))
 
 pub starts-with-spec : {M : Type 1} → statement M
 starts-with-spec =

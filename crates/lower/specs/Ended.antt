@@ -1,0 +1,52 @@
+-- What the functions inside `lower` promise.
+-- Assumes nothing.
+use Prim.Native.Nat.{ℕ}
+use mathlib.Core.Bool.{Bool}
+use mathlib.Core.List.{List}
+use mathlib.Core.Path.{_≡_}
+use Rattle.book.specs.Outline.{Book, read}
+use Rattle.constants.specs.OfBook.{settled}
+use Rattle.types.specs.declared.Scope.{Scope}
+use Rattle.types.specs.declared.Part.{Part}
+use Rattle.types.specs.Lowering.{Out, start, run, usedLimits}
+use Rattle.types.specs.Resolved.{Names}
+use Rattle.types.specs.Step.{Step, _>>_}
+use Rattle.types.specs.Standing.{Lent, held}
+use Rattle.types.specs.Registered.{Registered}
+use Rattle.types.specs.Lowers.{GoesOn}
+use Rattle.bodies.specs.Constant.{lowerConstants}
+use Rattle.bodies.specs.Bodies.{lowerBodies}
+use Rattle.lower.specs.declared.Reply as code
+use Rattle.lower.specs.LowerBook.{lowerRecords, ended}
+use Rattle.lower.specs.Promise.{outcomeOf}
+
+-- the slices as they were lent
+abbrev pub lentOf : List ℕ → List ℕ → Lent
+lentOf results diagnostics = record { results = results; diagnostics = diagnostics }
+
+-- what follows the plain aliases: the constants, then the bodies
+abbrev pub lowerRest : Book → Step Unit
+lowerRest book = lowerConstants book (settled book) >> lowerBodies book
+
+-- the declarations of a book are numbered, whatever stood in the array of generic aliases before
+pub record Numbered (book : List ℕ) (scope : Scope) (ambiguous : List Bool) (generics numbers : List ℕ) : Type 0 where
+  pub before : List ℕ
+  pub registered : Registered book scope ambiguous before generics numbers
+
+-- the parts of a book were lowered, one after the other: the answer stands for how that ends, with some arrays
+pub record LowersBook (book results diagnostics : List ℕ) (x : Part) (results′ diagnostics′ : List ℕ) : Type 0 where
+  pub scope : Scope
+  pub aliases : List ℕ
+  pub numbers : List ℕ
+  pub pairs : List ℕ
+  pub goes :
+      GoesOn book scope (lentOf results diagnostics) aliases (held numbers pairs results′ diagnostics′) x
+      (run (usedLimits results diagnostics) (lowerRecords (settled (read book)) (read book)) start)
+
+-- the reply to an end that an answer stands for, and what is left in the slices
+abbrev pub Replies : Part → ℕ → List ℕ → List ℕ → code.Reply → List ℕ → List ℕ → Type 0
+Replies x stored results diagnostics reply results′ diagnostics′ =
+    (book : List ℕ) (scope : Scope) (lent : Lent) (aliases numbers pairs : List ℕ) (out : Out (Unit × Names)) →
+    GoesOn book scope lent aliases (held numbers pairs results diagnostics) x out →
+    outcomeOf reply results′ diagnostics′
+    ≡ ended stored (usedLimits (lent .results) (lent .diagnostics)) (lent .results) (lent .diagnostics) out

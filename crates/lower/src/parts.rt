@@ -1,0 +1,253 @@
+// The parts of a book that reading accepts: declarations numbered, plain aliases, constants, bodies; and the reply.
+
+ghost use mathlib.Core.Path.{_≡_};
+ghost use Rattle.book.specs.Blocks.{recordCount, wildcards};
+ghost use Rattle.book.specs.Outline.{read};
+ghost use Rattle.book.specs.Trees.{Readable};
+ghost use Rattle.constants.specs.OfBook.{settled};
+ghost use Rattle.types.specs.Standing.{held, Reads, Stands};
+ghost use Rattle.types.specs.Lowers.{LowersPart};
+ghost use Rattle.bodies.specs.Lowers.{Holds};
+ghost use Rattle.lower.specs.LowerBook.{lowerRead};
+ghost use Rattle.lower.specs.Promise.{outcomeOf};
+ghost use Rattle.lower.specs.Ended.{lowerRest, Numbered, LowersBook, Replies};
+use crate::Cause;
+use crate::Reply;
+use bodies::consts;
+use bodies::decls;
+use record::write;
+use types::LowerCtx;
+use types::MOST_DIAGNOSTICS;
+use types::MOST_RESULTS;
+use types::NAMES;
+use types::POISON_TYPE_ID;
+use types::Part;
+use types::RECORDS;
+use types::RESULTS;
+use types::Scope;
+use types::alias;
+use types::register;
+
+// Lowers the constants and the bodies, behind the plain aliases.
+fn lower_rest(
+    book: &[u8],
+    count: u16,
+    m: u16,
+    order: &[u16; RECORDS],
+    stored: &[bool; RECORDS],
+    values: &[u64; RECORDS],
+    scope: Scope,
+    ctx: LowerCtx,
+    ambiguous: &[bool; NAMES],
+    aliases: &[u32; NAMES],
+    generics: &[u32; RECORDS],
+    numbers: &mut [u32; NAMES],
+    pairs: &mut [u32; RESULTS],
+    results: &mut [u8],
+    diagnostics: &mut [u8],
+) -> Part
+    requires { ⌜ (count ≡ recordCount (now book)) × Holds (now book) m (now order) (now stored) (now values) ⌝ }
+    requires { ⌜ Reads (now book) scope (now ambiguous) (now generics) ⌝ }
+    requires { ⌜ Stands (now book) scope (now aliases) ctx (held (now numbers) (now pairs) (now results) (now diagnostics)) ⌝ }
+    ensures { λ r. ⌜ LowersPart (now (book .entry)) scope (now (aliases .entry)) ctx
+        (held (now (numbers .entry)) (now (pairs .entry)) (now (results .entry)) (now (diagnostics .entry)))
+        (lowerRest (read (now (book .entry)))) r
+        (held (now (numbers .exit)) (now (pairs .exit)) (now (results .exit)) (now (diagnostics .exit))) ⌝ }
+{
+    let end = consts::lower_constants(
+        book,
+        m,
+        order,
+        stored,
+        values,
+        scope,
+        ctx,
+        ambiguous,
+        aliases,
+        generics,
+        numbers,
+        pairs,
+        results,
+        diagnostics,
+    );
+    match end {
+        Part::Lowered(behind) => decls::lower_bodies(
+            book,
+            count,
+            scope,
+            behind,
+            ambiguous,
+            aliases,
+            generics,
+            numbers,
+            pairs,
+            results,
+            diagnostics,
+        ),
+        Part::Refused { stop, place } => Part::Refused { stop, place },
+    }
+}
+
+// Lowers the plain aliases, the constants and the bodies, behind the numbering.
+fn lower_named(
+    book: &[u8],
+    count: u16,
+    m: u16,
+    order: &[u16; RECORDS],
+    stored: &[bool; RECORDS],
+    values: &[u64; RECORDS],
+    scope: Scope,
+    ambiguous: &[bool; NAMES],
+    generics: &[u32; RECORDS],
+    numbers: &mut [u32; NAMES],
+    results: &mut [u8],
+    diagnostics: &mut [u8],
+) -> Part
+    requires { ⌜ (count ≡ recordCount (now book)) × Holds (now book) m (now order) (now stored) (now values) ⌝ }
+    requires { ⌜ Numbered (now book) scope (now ambiguous) (now generics) (now numbers) ⌝ }
+    ensures { λ r. ⌜ LowersBook (now (book .entry)) (now (results .entry)) (now (diagnostics .entry)) r (now (results .exit)) (now (diagnostics .exit)) ⌝ }
+{
+    let mut aliases = [POISON_TYPE_ID; NAMES];
+    let mut pairs = [POISON_TYPE_ID; RESULTS];
+    let ctx = LowerCtx {
+        next: scope.named,
+        results: 0,
+        diagnostics: 0,
+    };
+    let end = alias::lower_aliases(
+        book,
+        count,
+        scope,
+        ctx,
+        ambiguous,
+        &mut aliases,
+        generics,
+        numbers,
+        &mut pairs,
+        results,
+        diagnostics,
+    );
+    match end {
+        Part::Lowered(behind) => lower_rest(
+            book,
+            count,
+            m,
+            order,
+            stored,
+            values,
+            scope,
+            behind,
+            ambiguous,
+            &aliases,
+            generics,
+            numbers,
+            &mut pairs,
+            results,
+            diagnostics,
+        ),
+        Part::Refused { stop, place } => Part::Refused { stop, place },
+    }
+}
+
+// Numbers the declarations, and lowers all parts.
+fn lower_records(
+    book: &[u8],
+    count: u16,
+    imports: bool,
+    m: u16,
+    order: &[u16; RECORDS],
+    stored: &[bool; RECORDS],
+    values: &[u64; RECORDS],
+    results: &mut [u8],
+    diagnostics: &mut [u8],
+) -> Part
+    requires { ⌜ (count ≡ recordCount (now book)) × (imports ≡ wildcards (now book)) × Holds (now book) m (now order) (now stored) (now values) ⌝ }
+    ensures { λ r. ⌜ LowersBook (now (book .entry)) (now (results .entry)) (now (diagnostics .entry)) r (now (results .exit)) (now (diagnostics .exit)) ⌝ }
+{
+    let mut ambiguous = [false; NAMES];
+    let mut generics = [0u32; RECORDS];
+    let mut numbers = [POISON_TYPE_ID; NAMES];
+    let scope = register::register_declarations(
+        book,
+        count,
+        imports,
+        &mut ambiguous,
+        &mut generics,
+        &mut numbers,
+    );
+    lower_named(
+        book,
+        count,
+        m,
+        order,
+        stored,
+        values,
+        scope,
+        &ambiguous,
+        &generics,
+        &mut numbers,
+        results,
+        diagnostics,
+    )
+}
+
+// The reply to how a lowering ended. A refusal leaves zeros up to the limits.
+fn reply_to(end: Part, stored: u16, results: &mut [u8], diagnostics: &mut [u8]) -> Reply
+    ensures { λ r. ⌜ Replies end stored (now (results .entry)) (now (diagnostics .entry)) r (now (results .exit)) (now (diagnostics .exit)) ⌝ }
+{
+    match end {
+        Part::Lowered(behind) => Reply::Accepted {
+            results: behind.results,
+            diagnostics: behind.diagnostics,
+            constants: stored,
+        },
+        Part::Refused { stop, place } => {
+            write::clear(results, MOST_RESULTS);
+            write::clear(diagnostics, MOST_DIAGNOSTICS);
+            Reply::Refused {
+                cause: Cause::Lowering(stop),
+                place,
+            }
+        }
+    }
+}
+
+// Lowers a book that reading accepts, with so many records.
+pub(crate) fn lower_read(
+    book: &[u8],
+    count: u16,
+    imports: bool,
+    results: &mut [u8],
+    diagnostics: &mut [u8],
+) -> Reply
+    requires { ⌜ Readable (now book) × (count ≡ recordCount (now book)) × (imports ≡ wildcards (now book)) ⌝ }
+    ensures { λ r. ⌜ outcomeOf r (now (results .exit)) (now (diagnostics .exit))
+        ≡ lowerRead (settled (read (now (book .entry)))) (read (now (book .entry))) (now (results .entry)) (now (diagnostics .entry)) ⌝ }
+{
+    let mut known = [false; NAMES];
+    let mut worth = [0u64; NAMES];
+    let mut order = [0u16; RECORDS];
+    let mut stored = [false; RECORDS];
+    let mut values = [0u64; RECORDS];
+    let m = constants::evaluate_constants(
+        book,
+        count,
+        &mut known,
+        &mut worth,
+        &mut order,
+        &mut stored,
+        &mut values,
+    );
+    let end = lower_records(
+        book,
+        count,
+        imports,
+        m,
+        &order,
+        &stored,
+        &values,
+        results,
+        diagnostics,
+    );
+    reply_to(end, consts::count_stored(m, &stored), results, diagnostics)
+}
