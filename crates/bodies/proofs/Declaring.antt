@@ -5,14 +5,13 @@ use mathlib.Core.Bool.{Bool, false, cond}
 use mathlib.Core.List.{List}
 use mathlib.Core.Path.{_≡_, refl, ap, _∙_}
 use native.Mathlib.Omega.{arith}
-use lib.ListN.{length}
 use Rattle.record.specs.declared.Record.{Record}
 use Rattle.record.specs.Layout.{recordAt}
 use Rattle.book.specs.Lists.{keep}
 use Rattle.book.specs.Shape.{row, declaration, type, name, child, unused, table, childIn}
 use Rattle.book.specs.Blocks.{records}
 use Rattle.book.specs.Faults.{isKind}
-use Rattle.book.specs.Outline.{read, _!_, notes, items}
+use Rattle.book.specs.Outline.{read, notes, items}
 use Rattle.book.proofs.Soles.{children-by-row}
 use Rattle.types.specs.declared.LowerCtx.{LowerCtx}
 use Rattle.types.specs.declared.Scope.{Scope}
@@ -23,22 +22,21 @@ use Rattle.types.specs.declared.Lowered as done
 use Rattle.types.specs.declared.Lowered.the-variants.{Done, Stopped}
 use Rattle.types.specs.declared.Part as parts
 use Rattle.types.specs.declared.Part.the-variants.{Lowered, Refused}
-use Rattle.types.specs.Lowering.{andThen, State, moved, run}
+use Rattle.types.specs.Lowering.{andThen, moved}
 use Rattle.types.specs.Events.{goOn}
-use Rattle.types.specs.Resolved.{Names}
 use Rattle.types.specs.Step.{Step, _>>_, at, emit, forEach}
 use Rattle.types.specs.Resolve.{resolveType}
 use Rattle.types.specs.Steps.{IsType}
-use Rattle.types.specs.Standing.{Lent, Held, Resolves, Stands}
+use Rattle.types.specs.Standing.{Held, Resolves, Stands}
 use Rattle.types.specs.Lowers.{LowersHere, LowersAt, LowersPart}
 use Rattle.types.proofs.Adds.{runs-in-turn}
 use Rattle.types.proofs.Emitting.{limitsOf}
-use Rattle.types.proofs.Arms.{rooted}
 use Rattle.types.proofs.Generics.{there-is}
-use Rattle.types.proofs.Finishing.{moved-from, stays-refused}
+use Rattle.types.proofs.Finishing.{moved-from}
 use Rattle.bodies.specs.Encoding.{hasAnnotation}
 use Rattle.bodies.specs.Bodies.{carried, lowerItem, lowerMessage, lowerUnion, lowerNewtype, lowerDecl}
 use Rattle.bodies.specs.Lowers.{IsAt, IsDecl, emitLast, LowersBody}
+use Rattle.bodies.proofs.Turns.{inside, record-is, type-stops, type-goes}
 use Rattle.bodies.proofs.Going.{at-run, went, goes-part, halts-part, stops-goes-on}
 
 module _ {bytes : List ℕ} {scope : Scope} {aliases : List ℕ} {ctx : LowerCtx} {h h₁ : Held} where
@@ -81,21 +79,18 @@ is-decl is low high =
 
 -- record n, which is r, is of a kind
 module _ {kind : ℕ} {bytes : List ℕ} {n : ℕ} (is : IsAt kind bytes n) {r : Record} (is-at : r ≡ recordAt bytes n) where
-  is-there : read bytes ! n ≡ r
-  is-there = there-is (is .readable) (is .here) is-at
-
   -- a message and its items, a union and its items
   message-is :
       {w : Record} {delta : Bool} → w ≡ carried 42 (r .a) 0 0 r → delta ≡ hasAnnotation 2 (notes (read bytes) n) →
       emit w >> forEach (lowerItem (read bytes) delta) (items (read bytes) n) ≡ lowerMessage (read bytes) n
   unfolding lowerMessage
-  message-is e d = rw (e, d, is-there)
+  message-is e d = rw (e, d, record-is is is-at)
 
   union-is :
       {w : Record} → w ≡ carried 43 (r .a) 0 0 r →
       emit w >> forEach (lowerItem (read bytes) false) (items (read bytes) n) ≡ lowerUnion (read bytes) n
   unfolding lowerUnion
-  union-is e = rw (e, is-there)
+  union-is e = rw (e, record-is is is-at)
 
   module _
       {scope : Scope} {aliases : List ℕ} {ctx : LowerCtx} {h h₁ : Held} {w : Record} {x : done.Lowered}
@@ -128,9 +123,8 @@ module _ {bytes : List ℕ} {n : ℕ} (is : IsAt 22 bytes n) {r : Record} (is-at
   pub newtype-type : IsType bytes (r .b)
   unfolding read keep table childIn
   newtype-type =
-      let inside : n < length (records bytes) = omega (arith, is .here, is .readable .counted) in
-      let c = children-by-row (records bytes) (is .readable .well-formed) n inside (row declaration 22 0 0 name (child type) unused unused) (is .kind-is) refl .0 in
-      rw (← is-there is is-at)
+      let c = children-by-row (records bytes) (is .readable .well-formed) n (inside is) (row declaration 22 0 0 name (child type) unused unused) (is .kind-is) refl .0 in
+      rw (← record-is is is-at)
       record { readable = is .readable; here = omega (arith, c .earlier, is .here); of-group = c .of-group }
 
   -- its type is resolved, and its record written
@@ -141,26 +135,16 @@ module _ {bytes : List ℕ} {n : ℕ} (is : IsAt 22 bytes n) {r : Record} (is-at
       abbrev Whole : done.Lowered → Held → Type 0
       Whole = LowersHere bytes scope aliases ctx h (lowerNewtype (read bytes) n)
 
-      newtype-run :
-          (lent : Lent) (k : Names) (s : State) →
-          run (limitsOf lent) (lowerNewtype (read bytes) n k) s
-          ≡ goOn (run (limitsOf lent) (resolveType (read bytes) (r .b) k) s)
-          (λ x s. run (limitsOf lent) (emitLast (carried 48 (r .a) (x .0 .root) 0 r) (x .1)) s)
-      unfolding lowerNewtype
-      newtype-run lent k s =
-          rw (is-there is is-at)
-          (runs-in-turn _ _ (limitsOf lent) (resolveType (read bytes) (r .b) k) (λ x. emitLast (carried 48 (r .a) (x .0 .root) 0 r) (x .1)) s)
-
       pub newtype-refused : (c : stops.Stop) → x ≡ resolved.Stopped c → Whole (Stopped c) h₁
-      newtype-refused c q lent place k s f = rw (newtype-run lent k s) (stays-refused _ (rw q at (found lent place k s f)))
+      unfolding lowerNewtype
+      newtype-refused c q = rw (record-is is is-at) (type-stops _ _ found c q)
 
       pub newtype-resolved :
           (root : ℕ) (behind : LowerCtx) → x ≡ resolved.Root root behind → {w : Record} → w ≡ carried 48 (r .a) root 0 r →
           {y : done.Lowered} {h₂ : Held} → LowersHere bytes scope aliases behind h₁ (emitLast w) y h₂ → Whole y h₂
-      unfolding goOn
-      newtype-resolved root behind q e last lent place k s f =
-          let t = rooted (rw q at (found lent place k s f)) in
-          rw (newtype-run lent k s, t .is, ← t .root-is, ← e) (last lent place (t .names) (t .state) (t .from))
+      unfolding lowerNewtype
+      newtype-resolved root behind q e last =
+          rw (record-is is is-at) (type-goes _ _ found root behind q (λ t root-is. rw (e, root-is) at last))
 
 -- the declaration at record n, which is r, is a message, a union or a newtype, by its kind
 module _ {bytes : List ℕ} {n : ℕ} (is : IsDecl bytes n) {r : Record} (is-at : r ≡ recordAt bytes n) where

@@ -1,14 +1,14 @@
 -- A field is lowered: its type is resolved, its constraint is written, then its own record and its encoding. The root of its type says what a
 -- message's delta does with it.
 -- Assumes nothing.
-use Prim.Native.Nat.{ℕ, _*_, _<_}
+use Prim.Native.Nat.{ℕ, _*_}
 use mathlib.Core.Bool.{Bool}
 use mathlib.Core.List.{List}
 use mathlib.Core.Logic.{inl}
 use mathlib.Core.Option.{Option, some, none}
 use mathlib.Core.Path.{_≡_, refl, ap, _∙_}
 use native.Mathlib.Omega.{arith}
-use lib.ListN.{length, drop}
+use lib.ListN.{drop}
 use Rattle.record.specs.declared.Record.{Record}
 use Rattle.record.specs.Layout.{recordAt, decodeRecord}
 use Rattle.book.specs.Lists.{keep}
@@ -39,23 +39,15 @@ use Rattle.types.proofs.Adds.{runs-in-turn}
 use Rattle.types.proofs.Records.{rootRecord, stands-root, read-back}
 use Rattle.types.proofs.Emitting.{limitsOf}
 use Rattle.types.proofs.Arms.{rooted}
-use Rattle.types.proofs.Generics.{there-is}
-use Rattle.types.proofs.Finishing.{stays-refused, stands-so}
+use Rattle.types.proofs.Finishing.{stands-so}
 use Rattle.bodies.specs.declared.encodings.Inner as inners
 use Rattle.bodies.specs.declared.encodings.FieldEncoding as fields
 use Rattle.bodies.specs.Encoding.{FieldEncoding, computeFieldEncoding, deltaInner, underInner, underDelta, encodingRecord}
 use Rattle.bodies.specs.Encoded.{innerOf, fieldEncodingOf, innerAt}
 use Rattle.bodies.specs.Bodies.{carried, lowerField}
 use Rattle.bodies.specs.Lowers.{IsAt, MaybeWhere, maybeWhere, emitLast, finishField, FinishesField}
+use Rattle.bodies.proofs.Turns.{inside, record-is, type-stops}
 use Rattle.bodies.proofs.Going.{wrote, went, fails-goes, halts-goes}
-
--- record n of the book is among its records, and is the one read there
-module _ {kind : ℕ} {bytes : List ℕ} {n : ℕ} (x : IsAt kind bytes n) where
-  pub inside : n < length (records bytes)
-  inside = omega (arith, x .here, x .readable .counted)
-
-  pub record-is : {r : Record} → r ≡ recordAt bytes n → read bytes ! n ≡ r
-  record-is is-at = there-is (x .readable) (x .here) is-at
 
 -- it is a field: its type and its constraint
 module _ {bytes : List ℕ} {n : ℕ} (x : IsAt 31 bytes n) {r : Record} (is-at : r ≡ recordAt bytes n) where
@@ -95,9 +87,8 @@ module _
     -- a refusal of its type is one of the field
     pub type-refused :
         (c : stops.Stop) → x ≡ Stopped c → LowersHere bytes scope aliases ctx h (lowerField (read bytes) delta n) (lowered.Stopped c) h₁
-    type-refused c q lent place k s f =
-        rw (field-run (limitsOf lent) (read bytes) delta n k s, record-is at-31 is-at)
-        (stays-refused _ (rw q at (found lent place k s f)))
+    unfolding lowerField
+    type-refused c q = rw (record-is at-31 is-at) (type-stops _ _ found c q)
 
     pub type-resolved :
         (root : ℕ) (behind : LowerCtx) {y : done.Lowered} {h₂ : Held} → x ≡ Root root behind →

@@ -2,6 +2,7 @@ pub mod Bodies
 pub mod Constant
 pub mod Whole
 pub mod Going
+pub mod Turns
 pub mod Wheres
 pub mod Notes
 pub mod Noted

@@ -38,7 +38,7 @@ use Rattle.types.proofs.Finishing.{stands-so, moved-from}
 use Rattle.bodies.specs.Bodies.{carried, firstString, lowerField, lowerTombstone, lowerVariant, lowerItem}
 use Rattle.bodies.specs.Lowers.{IsAt, IsItem, MaybeType, maybeType, emitLast}
 use Rattle.bodies.proofs.Going.{at-run, wrote, fails-goes, some-written}
-use Rattle.bodies.proofs.Fields.{record-is, inside}
+use Rattle.bodies.proofs.Turns.{record-is, inside}
 
 -- the type that a tombstone (32) may have is its child
 pub tombstone-child : {bytes : List ℕ} {n : ℕ} → IsAt 32 bytes n → {r : Record} → r ≡ recordAt bytes n → MaybeType bytes (r .c)

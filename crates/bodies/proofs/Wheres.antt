@@ -24,16 +24,14 @@ use Rattle.types.specs.declared.Scope.{Scope}
 use Rattle.types.specs.declared.Stop as stops
 use Rattle.types.specs.declared.Resolved as answers
 use Rattle.types.specs.declared.Resolved.the-variants.{Root, Stopped}
-use Rattle.types.specs.Events.{goOn}
-use Rattle.types.specs.Resolved.{Names}
 use Rattle.types.specs.Step.{Step, _>>=_, emit, bare}
 use Rattle.types.specs.Standing.{Held, IsResult}
 use Rattle.types.specs.Lowers.{WritesOne}
-use Rattle.types.proofs.Adds.{runs-in-turn}
-use Rattle.types.proofs.Emitting.{limitsOf, Emitted, withResults}
+use Rattle.types.proofs.Emitting.{Emitted, withResults}
 use Rattle.bodies.specs.Constraint.{operand, whereExpr, lowerWhereBy, lowerWhereExpr}
 use Rattle.bodies.specs.Lowers.{IsWhere, operandRecord}
-use Rattle.bodies.proofs.Going.{wrote, fails-writes, emit-writes}
+use Rattle.bodies.proofs.Going.{emit-writes}
+use Rattle.bodies.proofs.Turns.{refused-then, wrote-then}
 use Rattle.bodies.proofs.Whole.{Of, whole-constraints}
 
 -- the code's test for a record with one child: a comparison, or Not
@@ -123,26 +121,6 @@ module _ {Q : ℕ → Type 0} {child : ℕ → Step ℕ} {r : Record} where
   form-two f e (alone k d) = absurd (f k)
   form-two f e (one k t a d) = absurd (true≢false (sym t ∙ e))
   form-two f e (two k t a b d) = d
-
--- one step after another
-module _
-    {bytes : List ℕ} {scope : Scope} {aliases : List ℕ} {ctx : LowerCtx} {h h′ : Held} {x : answers.Resolved}
-    (m : Step ℕ) (f : ℕ → Step ℕ) (w : WritesOne bytes scope aliases ctx h m x h′) where
-  -- a refusal of the first is one of both
-  pub refused-then : {c : stops.Stop} → x ≡ Stopped c → WritesOne bytes scope aliases ctx h (m >>= f) x h′
-  refused-then q lent place k s from =
-      rw (runs-in-turn (ℕ × Names) (ℕ × Names) (limitsOf lent) (m k) (λ z. f (z .0) (z .1)) s)
-      (rw q (fails-writes _ (rw q at (w lent place k s from))))
-
-  -- behind the number of the first, the second
-  pub wrote-then :
-      {root : ℕ} {behind : LowerCtx} {y : answers.Resolved} {h″ : Held} → x ≡ Root root behind →
-      (root < 65536 → WritesOne bytes scope aliases behind h′ (f root) y h″) → WritesOne bytes scope aliases ctx h (m >>= f) y h″
-  unfolding goOn
-  wrote-then q next lent place k s from =
-      let o = wrote (rw q at (w lent place k s from)) in
-      rw (runs-in-turn (ℕ × Names) (ℕ × Names) (limitsOf lent) (m k) (λ z. f (z .0) (z .1)) s, o .is)
-      (next (o .below) lent place (o .names) (o .state) (o .from))
 
 -- a child of the constraint at record n
 pub record Below (bytes : List ℕ) (n m : ℕ) : Type 0 where

@@ -117,6 +117,7 @@ fn first_string(book: &[u8], count: u16, n: u16, key: u8) -> u16
         if (r.kind == 36) & (r.sub == key) & (r.a != NONE) {
             return r.a;
         }
+        // Parts of trees, and records of kinds 30 and 34 to 36, do not end the arguments.
         if (16 < r.kind) & (r.kind != 30) & (r.kind < 34) | (36 < r.kind) {
             return NONE;
         }

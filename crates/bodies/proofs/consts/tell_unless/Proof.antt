@@ -4,7 +4,7 @@ use borrow.Author.Needs.{needs}
 use Rattle.types.specs.Lowering.{run}
 use Rattle.types.specs.Lowers.{goes}
 use Rattle.types.proofs.Generics.{there-is}
-use Rattle.bodies.proofs.Settles.{tell-goes}
+use Rattle.bodies.proofs.Turns.{tell-goes}
 use Rattle.bodies.proofs.consts.tell_unless.Statement.{statement}
 use Rattle.bodies.proofs.consts.tell_unless.Tie as tie
 
