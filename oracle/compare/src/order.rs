@@ -29,9 +29,6 @@ const COPIES: [usize; 3] = [2_000, 500, 200];
 /// Each time is the least of so many runs.
 const RUNS: usize = 21;
 
-/// Slices that have no room.
-const NO_ROOM: (usize, usize) = (0, 0);
-
 /// Constants of three records with these names: 0 is a literal, each other one is the one whose name is one less.
 fn chain(d: &mut Draft, names: impl Iterator<Item = u16>) {
     for name in names {
@@ -87,22 +84,20 @@ fn without_constants(book: &Draft, constants: u16) -> Draft {
     d
 }
 
-/// Writes four lists of copies of a book: it is accepted; it is refused by 10, since there is no room; and both once
-/// more with newtypes in place of its constants.
-fn lists(folder: &str, book: &Draft, constants: u16, copies: usize) -> Result<[String; 4], String> {
+/// Writes two lists of copies of a book, which is accepted: as it is, and with newtypes in place of its constants.
+fn lists(folder: &str, book: &Draft, constants: u16, copies: usize) -> Result<[String; 2], String> {
     let other = without_constants(book, constants);
-    let four = [(book, FULL), (book, NO_ROOM), (&other, FULL), (&other, NO_ROOM)];
-    let paths = [0, 1, 2, 3].map(|n| format!("{folder}/{copies}-{n}"));
-    for (path, (d, lent)) in paths.iter().zip(four) {
-        list(path, d, lent, copies)?;
+    let paths = [0, 1].map(|n| format!("{folder}/{copies}-{n}"));
+    for (path, d) in paths.iter().zip([book, &other]) {
+        list(path, d, FULL, copies)?;
     }
     Ok(paths)
 }
 
-/// What the constants take, of what the four lists take. A book that is refused is read like one that is accepted, and
-/// that is all; with newtypes the same tables are cleared, and as many records and results looked at.
-fn of_constants([accepted, refused, other, other_refused]: [f64; 4]) -> f64 {
-    (accepted - refused) - (other - other_refused)
+/// What the constants take more than as many newtypes: as many records are read, and as many results written and
+/// compared.
+fn of_constants([constants, newtypes]: [f64; 2]) -> f64 {
+    constants - newtypes
 }
 
 /// Writes copies of the answer for a book, on which everything agrees, and has the program read them.
@@ -122,9 +117,9 @@ fn list(path: &str, d: &Draft, lent: (usize, usize), copies: usize) -> Result<()
 
 /// The least time that the program takes for each list, in seconds. They have their turns, so that what else the
 /// machine does meets all of them.
-fn least(paths: &[String; 4]) -> Result<[f64; 4], String> {
-    let mut least = [f64::MAX; 4];
-    for n in (0..4).cycle().take(4 * RUNS) {
+fn least(paths: &[String; 2]) -> Result<[f64; 2], String> {
+    let mut least = [f64::MAX; 2];
+    for n in (0..2).cycle().take(2 * RUNS) {
         let start = Instant::now();
         replayed::replay(&paths[n])?;
         least[n] = least[n].min(start.elapsed().as_secs_f64());
@@ -133,8 +128,8 @@ fn least(paths: &[String; 4]) -> Result<[f64; 4], String> {
 }
 
 /// How many instructions the program takes for each list.
-fn counts(paths: &[String; 4]) -> Result<[f64; 4], String> {
-    let mut counts = [0.0; 4];
+fn counts(paths: &[String; 2]) -> Result<[f64; 2], String> {
+    let mut counts = [0.0; 2];
     for (count, path) in counts.iter_mut().zip(paths) {
         *count = instructions(path)?;
     }
@@ -169,7 +164,7 @@ fn line(folder: &str, kind: &Kind, n: u16, copies: usize) -> Result<String, Stri
 
 fn table(folder: &str) -> Result<(), String> {
     fs::create_dir_all(folder).map_err(|e| format!("{folder}: {e}"))?;
-    println!("what constants take: instructions, for all and for each, and microseconds (least of {RUNS})");
+    println!("what constants take more than newtypes: instructions, for all and for each, and microseconds (least of {RUNS})");
     let [n, count, each, time, rust] = ["constants", "instructions", "each", "microseconds", "in the Rust"];
     println!("{:34}{n:>10}{count:>14}{each:>8}{time:>14}{rust:>13}", "");
     for kind in &KINDS {
