@@ -1,19 +1,17 @@
 // Reached constants: the result records and messages of each, in their order.
 
 ghost use mathlib.Core.Path.{_≡_};
-ghost use mathlib.Core.List.{List, map};
-ghost use Prim.Native.Nat.{ℕ, _≤_, _<_};
-ghost use lib.ListN.{take};
+ghost use mathlib.Core.List.{List};
+ghost use Prim.Native.Nat.{ℕ, _<_};
 ghost use Rattle.book.specs.Blocks.{recordCount};
 ghost use Rattle.book.specs.Outline.{read};
 ghost use Rattle.book.specs.Trees.{Readable};
 ghost use Rattle.constants.specs.Order.{Settled};
 ghost use Rattle.constants.specs.OfBook.{settled};
-ghost use Rattle.constants.specs.Evaluated.{hasValue};
 ghost use Rattle.types.specs.declared.Scope.{Scope};
 ghost use Rattle.types.specs.Standing.{held, Reads, Stands};
 ghost use Rattle.types.specs.Lowers.{LowersHere, LowersAt, LowersPart};
-ghost use Rattle.bodies.specs.Constant.{lowerConstant, lowerConstants, storedCount};
+ghost use Rattle.bodies.specs.Constant.{lowerConstant, lowerConstants};
 ghost use Rattle.bodies.specs.Lowers.{IsAt, Holds, IsSettled, constantAs, tellFor};
 use crate::emits;
 use record::Record;
@@ -173,21 +171,4 @@ pub fn lower_constants(
         k += 1;
     }
     Part::Lowered(behind)
-}
-
-// How many of the first m constants are stored.
-pub fn count_stored(m: u16, stored: &[bool; RECORDS]) -> u16
-    requires { ⌜ m ≤ 1344 ⌝ }
-    ensures { λ r. ⌜ ((cs : List Settled) → take m (now (stored .entry)) ≡ map (λ x. hasValue (x .value)) cs → r ≡ storedCount cs) ⌝ }
-{
-    let mut n: u16 = 0;
-    let mut k: u16 = 0;
-    while k < m {
-        let at = k as usize;
-        if stored[at] {
-            n += 1;
-        }
-        k += 1;
-    }
-    n
 }

@@ -4,5 +4,6 @@ pub mod Laws
 pub mod Told
 pub mod Demand3
 pub mod Parting
+pub mod Counting
 pub mod Ending
 pub mod Runs

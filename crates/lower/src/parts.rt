@@ -1,12 +1,18 @@
 // The parts of a book that reading accepts: declarations numbered, plain aliases, constants, bodies; and the reply.
 
 ghost use mathlib.Core.Path.{_≡_};
+ghost use mathlib.Core.List.{List, map};
+ghost use Prim.Native.Nat.{_≤_};
+ghost use lib.ListN.{take};
 ghost use Rattle.book.specs.Blocks.{recordCount, wildcards};
 ghost use Rattle.book.specs.Outline.{read};
 ghost use Rattle.book.specs.Trees.{Readable};
+ghost use Rattle.constants.specs.Order.{Settled};
 ghost use Rattle.constants.specs.OfBook.{settled};
+ghost use Rattle.constants.specs.Evaluated.{hasValue};
 ghost use Rattle.types.specs.Standing.{held, Reads, Stands};
 ghost use Rattle.types.specs.Lowers.{LowersPart};
+ghost use Rattle.bodies.specs.Constant.{storedCount};
 ghost use Rattle.bodies.specs.Lowers.{Holds};
 ghost use Rattle.lower.specs.LowerBook.{lowerRead};
 ghost use Rattle.lower.specs.Promise.{outcomeOf};
@@ -212,6 +218,23 @@ fn reply_to(end: Part, stored: u16, results: &mut [u8], diagnostics: &mut [u8]) 
     }
 }
 
+// How many of the first m constants are stored.
+fn count_stored(m: u16, stored: &[bool; RECORDS]) -> u16
+    requires { ⌜ m ≤ 1344 ⌝ }
+    ensures { λ r. ⌜ ((cs : List Settled) → take m (now (stored .entry)) ≡ map (λ x. hasValue (x .value)) cs → r ≡ storedCount cs) ⌝ }
+{
+    let mut n: u16 = 0;
+    let mut k: u16 = 0;
+    while k < m {
+        let at = k as usize;
+        if stored[at] {
+            n += 1;
+        }
+        k += 1;
+    }
+    n
+}
+
 // Lowers a book that reading accepts, with so many records.
 pub(crate) fn lower_read(
     book: &[u8],
@@ -249,5 +272,5 @@ pub(crate) fn lower_read(
         results,
         diagnostics,
     );
-    reply_to(end, consts::count_stored(m, &stored), results, diagnostics)
+    reply_to(end, count_stored(m, &stored), results, diagnostics)
 }

@@ -1,4 +1,4 @@
--- `bodies::consts::count_stored` meets its contract. The loop's invariant: n of the first k constants are stored.
+-- `lower::parts::count_stored` meets its contract. The loop's invariant: n of the first k constants are stored.
 -- Assumes nothing.
 use Prim.Native.Nat.{_-_, _≤_}
 use mathlib.Core.Logic.{⊎-elim}
@@ -6,9 +6,9 @@ use mathlib.Core.Path.{_≡_, refl, sym, ap, _∙_}
 use native.Mathlib.Omega.{arith}
 use lib.ListN.{take}
 use borrow.Author.Needs.{needs}
-use Rattle.bodies.proofs.InOrder.{trues, trues-on, trues-same, trues-few, stored-trues}
-use Rattle.bodies.proofs.consts.count_stored.Statement.{statement}
-use Rattle.bodies.proofs.consts.count_stored.Tie as tie
+use Rattle.lower.proofs.Counting.{trues, trues-on, trues-same, trues-few, stored-trues}
+use Rattle.lower.proofs.parts.count_stored.Statement.{statement}
+use Rattle.lower.proofs.parts.count_stored.Tie as tie
 
 abbrev Inv-loop : tie.InvT-loop
 Inv-loop m stored n₀ k₀ n k = (n ≡ trues (take k stored)) × (k ≤ m)
