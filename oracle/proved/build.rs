@@ -1,17 +1,25 @@
-//! Finds the static library of the crate `book`.
+//! Finds the static libraries of the crates `lower` and, where it is asked for, `book`.
 
-use std::path::PathBuf;
+use std::path::{Path, PathBuf};
 use std::{env, process};
+
+/// Links `libNAME.a` of that folder.
+fn link(folder: &Path, name: &str) {
+    let archive = folder.join(format!("lib{name}.a"));
+    println!("cargo:rerun-if-changed={}", archive.display());
+    if !archive.is_file() {
+        eprintln!("target/staticlib/lib{name}.a is not there: run `rt staticlib {name}` in the root of the repository");
+        process::exit(1);
+    }
+    println!("cargo:rustc-link-lib=static={name}");
+}
 
 fn main() {
     let root = PathBuf::from(env::var("CARGO_MANIFEST_DIR").unwrap()).join("../..");
     let folder = root.join("target/staticlib");
-    let archive = folder.join("libbook.a");
-    println!("cargo:rerun-if-changed={}", archive.display());
-    if !archive.is_file() {
-        eprintln!("target/staticlib/libbook.a is not there: run `rt staticlib book` in the root of the repository");
-        process::exit(1);
-    }
     println!("cargo:rustc-link-search=native={}", folder.display());
-    println!("cargo:rustc-link-lib=static=book");
+    link(&folder, "lower");
+    if env::var_os("CARGO_FEATURE_READING").is_some() {
+        link(&folder, "book");
+    }
 }

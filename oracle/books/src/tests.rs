@@ -1,6 +1,7 @@
 //! Tests of the generator.
 
 mod coverage;
+mod inputs;
 mod reader;
 
 use std::collections::BTreeMap;

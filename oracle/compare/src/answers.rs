@@ -284,7 +284,8 @@ pub fn check(folder: &str) -> Result<String, String> {
     Ok("the list is as made".to_string())
 }
 
-fn read(folder: &str) -> Result<Vec<Answer>, String> {
+/// The answers of the list in that folder.
+pub fn read(folder: &str) -> Result<Vec<Answer>, String> {
     let path = format!("{folder}/stdin");
     let bytes = fs::read(&path).map_err(|e| format!("{path}: {e}"))?;
     let mut rest = &bytes[..];

@@ -1,7 +1,7 @@
-//! One book with two lent lengths: the model's answer is held to the rows, to what is known by construction, to the
-//! laws of lent slices and, where the book is accepted, to the Rust; and the proved reading to the model's.
+//! One book with two lent lengths: the proved library's answer is held to the model's, and that to the rows, to what is
+//! known by construction, to the laws of lent slices and, where the book is accepted, to the Rust.
 
-use crate::{agree, reading, results, rows};
+use crate::{agree, library, results, rows};
 use books::{Book, Record};
 use model::{Reply, Trace};
 use std::panic::{catch_unwind, AssertUnwindSafe};
@@ -21,7 +21,7 @@ pub fn lent_diagnostics(len: usize) -> Vec<u8> {
     (0..len).map(|i| (3 * i + 29) as u8).collect()
 }
 
-/// A run of the model.
+/// A run of the model, and of the proved library where it is linked.
 pub struct Run {
     pub reply: Reply,
     pub trace: Trace,
@@ -34,7 +34,7 @@ pub fn run(book: &[u8], results: usize, diagnostics: usize) -> Result<Run, Strin
     let mut d = lent_diagnostics(diagnostics);
     let answer = catch_unwind(AssertUnwindSafe(|| model::lower_book(book, &mut r, &mut d)));
     let (reply, trace) = answer.map_err(|_| "the model panics".to_string())?;
-    Ok(Run { reply, trace, results: r, diagnostics: d })
+    library::lowered(book, Run { reply, trace, results: r, diagnostics: d })
 }
 
 /// The run with slices of the full limits.
@@ -47,6 +47,8 @@ pub struct Outcome {
     pub reply: Reply,
     /// The run with full slices, for a book that is not refused by 1 to 8.
     pub full: Option<Run>,
+    /// What the Rust makes of a book that is accepted with full slices, with its constants one at a time.
+    pub rust: Option<Lowered>,
     /// Whether it was compared with the Rust's own order of constants too.
     pub compared: bool,
 }
@@ -54,14 +56,13 @@ pub struct Outcome {
 pub fn judge(book: &[u8], results: usize, diagnostics: usize, expected: Option<(u8, u32)>) -> Result<Outcome, String> {
     let lent = run(book, results, diagnostics)?;
     let reply = lent.reply;
-    reading::agrees(book, reply)?;
     if let Some((number, place)) = expected {
         same("by construction", reply, Reply::Refused { number, place })?;
     }
     if let Some((number, place)) = rows::first(book) {
         same("by the rows", reply, Reply::Refused { number, place })?;
         left(&lent, 0, 0)?;
-        return Ok(Outcome { reply, full: None, compared: false });
+        return Ok(Outcome { reply, full: None, rust: None, compared: false });
     }
     if let Reply::Refused { number: 1..=8, .. } = reply {
         return Err(format!("{reply:?}, but no row holds"));
@@ -75,7 +76,24 @@ pub fn judge(book: &[u8], results: usize, diagnostics: usize, expected: Option<(
     if compared {
         together(book, &full)?;
     }
-    Ok(Outcome { reply, full: Some(full), compared })
+    Ok(Outcome { reply, full: Some(full), rust, compared })
+}
+
+/// The book with slices for every number of records up to all that it writes, one slice full and the other cut. What a
+/// cut slice has behind its last whole record goes through 0 to 23 bytes.
+pub fn cuts(book: &[u8], outcome: &Outcome) -> Result<(), String> {
+    let Some(full @ Run { reply: Reply::Accepted { results, diagnostics, .. }, .. }) = &outcome.full else {
+        return Ok(());
+    };
+    let short = |records: u32| (24 * records + records % 24) as usize;
+    let results = (0..=*results).map(|n| (short(n), 24 * MOST_DIAGNOSTICS));
+    let diagnostics = (0..=*diagnostics).map(|n| (24 * MOST_RESULTS, short(n)));
+    for (r, d) in results.chain(diagnostics) {
+        let lent = run(book, r, d)?;
+        counted(book, &lent)?;
+        slices(book, &lent, full, outcome.rust.as_ref())?;
+    }
+    Ok(())
 }
 
 fn same(what: &str, ours: Reply, expected: Reply) -> Result<(), String> {

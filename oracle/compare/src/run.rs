@@ -91,12 +91,21 @@ pub fn readable_book(seed: u64, n: u64) -> (Book, (usize, usize)) {
     (book, lent)
 }
 
+/// Every so manieth readable book is lowered with its slices cut behind each of its records.
+const CUT: u64 = 64;
+
 /// Judges readable book number n.
 fn readable(seed: u64, n: u64, tally: &mut Tally) {
     let (book, lent) = readable_book(seed, n);
     let bytes = book.bytes();
     tally.generated += 1;
-    match judge(&bytes, lent.0, lent.1, None) {
+    let judged = judge(&bytes, lent.0, lent.1, None).and_then(|outcome| {
+        if n.is_multiple_of(CUT) {
+            judge::cuts(&bytes, &outcome)?;
+        }
+        Ok(outcome)
+    });
+    match judged {
         Ok(outcome) => {
             tally.saw(&outcome);
             tally.compared += outcome.compared as u64;
@@ -153,11 +162,20 @@ pub fn share<T: Default + Send>(numbers: Range<u64>, of: impl Fn(u64, &mut T) + 
 /// How many readable books are made before it is asked whether that is enough.
 pub const ROUND: u64 = 500;
 
-/// Books with names, readable ones until enough accepted ones have been compared with the Rust, and damaged ones. The
-/// same seed and numbers give the same tally.
-pub fn run(books: u64, damages: u64, seed: u64) -> Tally {
+/// Books with names, unless they are left out, and the books of each seed. The same seeds and numbers give the same
+/// tally.
+pub fn run(named: bool, books: u64, damages: u64, seeds: Range<u64>) -> Tally {
     let mut all = Tally::default();
-    named_books(&mut all);
+    if named {
+        named_books(&mut all);
+    }
+    seeds.for_each(|seed| all.merge(of_seed(books, damages, seed)));
+    all
+}
+
+/// Readable books until enough accepted ones have been compared with the Rust, and damaged ones.
+fn of_seed(books: u64, damages: u64, seed: u64) -> Tally {
+    let mut all = Tally::default();
     while all.compared + all.disagreements < books {
         let from = all.generated;
         share(from..from + ROUND, |n, tally| readable(seed, n, tally)).into_iter().for_each(|t| all.merge(t));

@@ -1,11 +1,46 @@
-//! The proved crate `book`, linked as a static library.
+//! The proved crates `lower` and `book`, linked as static libraries. A Rattle slice is handed over as a pointer and a
+//! length.
 
 extern "C" {
-    /// `book_refusal(book: &[u8]) -> u32` of crates/book: a slice is handed over as a pointer and a length.
+    /// `signal_book_lower` of crates/lower.
+    fn signal_book_lower(
+        book: *const u8,
+        book_len: usize,
+        results: *mut u8,
+        results_len: usize,
+        diagnostics: *mut u8,
+        diagnostics_len: usize,
+        reply: *mut [u64; 4],
+    );
+
+    /// `book_refusal` of crates/book.
+    #[cfg(feature = "reading")]
     fn book_refusal(book: *const u8, len: usize) -> u32;
 }
 
-/// The cause, 1 to 8, and the place by which a book is refused, or none.
+/// Lowers a book. The four words of the reply: 0 and the counts of results, diagnostics and stored constants; or the
+/// number of the cause, the place, and two zeros.
+pub fn lower(book: &[u8], results: &mut [u8], diagnostics: &mut [u8]) -> [u64; 4] {
+    // Every word has to be written.
+    let mut reply = [u64::MAX; 4];
+    // SAFETY: the function reads the bytes of the book, writes the bytes of both slices and the four words, and no
+    // others, and keeps nothing. The borrows keep the three slices apart.
+    unsafe {
+        signal_book_lower(
+            book.as_ptr(),
+            book.len(),
+            results.as_mut_ptr(),
+            results.len(),
+            diagnostics.as_mut_ptr(),
+            diagnostics.len(),
+            &mut reply,
+        )
+    };
+    reply
+}
+
+/// The cause, 1 to 8, and the place by which reading refuses a book, or none.
+#[cfg(feature = "reading")]
 pub fn refusal(book: &[u8]) -> Option<(u8, u32)> {
     // SAFETY: the function reads the `len` bytes behind the pointer and no others, writes none, and keeps nothing.
     let word = unsafe { book_refusal(book.as_ptr(), book.len()) };
@@ -14,21 +49,36 @@ pub fn refusal(book: &[u8]) -> Option<(u8, u32)> {
 
 #[cfg(test)]
 mod tests {
-    use super::refusal;
+    /// The check of a block of zeros is all ones.
+    fn sealed() -> [u8; 512] {
+        let mut block = [0; 512];
+        block[510..].fill(0xFF);
+        block
+    }
 
     #[test]
-    fn lengths_are_refused() {
+    fn books_are_refused() {
+        let refused = |book: &[u8]| {
+            let mut slices = ([7; 48], [9; 24]);
+            let reply = super::lower(book, &mut slices.0, &mut slices.1);
+            assert_eq!(slices, ([7; 48], [9; 24]));
+            reply
+        };
+        assert_eq!(refused(&[]), [1, 0, 0, 0]);
+        assert_eq!(refused(&[0; 511]), [1, 0, 0, 0]);
+        assert_eq!(refused(&[0; 65 * 512]), [1, 0, 0, 0]);
+        assert_eq!(refused(&[0; 512]), [2, 0, 0, 0]);
+        assert_eq!(refused(&sealed()), [3, 0, 0, 0]);
+    }
+
+    #[cfg(feature = "reading")]
+    #[test]
+    fn books_are_read() {
+        use super::refusal;
         assert_eq!(refusal(&[]), Some((1, 0)));
         assert_eq!(refusal(&[0; 511]), Some((1, 0)));
         assert_eq!(refusal(&[0; 65 * 512]), Some((1, 0)));
-    }
-
-    /// The check of a block of zeros is all ones.
-    #[test]
-    fn blocks_are_refused() {
-        let mut block = [0; 512];
-        assert_eq!(refusal(&block), Some((2, 0)));
-        block[510..].fill(0xFF);
-        assert_eq!(refusal(&block), Some((3, 0)));
+        assert_eq!(refusal(&[0; 512]), Some((2, 0)));
+        assert_eq!(refusal(&sealed()), Some((3, 0)));
     }
 }
