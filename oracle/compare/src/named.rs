@@ -4,6 +4,7 @@
 mod bodies;
 mod children;
 mod constants;
+mod cuts;
 mod draft;
 mod faults;
 mod limits;
@@ -78,6 +79,7 @@ pub fn all() -> Vec<Named> {
     limits::sizes(&mut to);
     limits::slices(&mut to);
     limits::limits(&mut to);
+    cuts::cuts(&mut to);
     types::names(&mut to);
     types::generics(&mut to);
     bodies::bodies(&mut to);

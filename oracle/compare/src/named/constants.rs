@@ -91,7 +91,7 @@ type Pair = (i64, i64, bool);
 
 /// Each operator's name and pairs.
 const CORNERS: [(&str, &[Pair]); 4] = [
-    ("add", &[(MAX, 0, true), (MIN, -1, false), (MIN, MAX, true), (-1, 1, true)]),
+    ("add", &[(MAX, 0, true), (MIN, -1, false), (MIN, MAX, true), (-1, 1, true), (MIN, MIN, false)]),
     ("sub", &[(MIN, 1, false), (0, MIN, false), (-1, MIN, true), (MAX, -1, false)]),
     (
         "mul",
@@ -101,6 +101,8 @@ const CORNERS: [(&str, &[Pair]); 4] = [
             (1 << 32, 1 << 31, false),
             (-(1 << 32), 1 << 31, true),
             (3_037_000_500, 3_037_000_500, false),
+            (0, 5, true),
+            (MIN, 0, true),
         ],
     ),
     (
@@ -186,6 +188,19 @@ pub fn orders(to: &mut Books) {
     let mut diamond = k1();
     both(&mut diamond, 3, 0, [1, 2]);
     to.add("diamond", &diamond, accepted(6, 0, 3));
+    to.add("constants-17", &every_third_without(17), accepted(34, 6, 11));
+    to.add("constants-20", &every_third_without(20), accepted(40, 7, 13));
+}
+
+/// So many constants, of which the first and every third behind it have no value.
+fn every_third_without(count: u16) -> Draft {
+    let mut d = Draft::default();
+    for name in 0..count {
+        let (l, r) = (d.int(1), d.int(i64::from(name % 3)));
+        let e = d.operation(3, l, r);
+        d.constant(name, e);
+    }
+    d
 }
 
 /// Puts a type and gives its number.

@@ -281,7 +281,8 @@ fn argument_parts(to: &mut Books) {
     to.add("generic-twice-in-a-map", &d, accepted(12, 2, 0));
 }
 
-/// A head that is a plain alias of a generic one, and a generic alias behind the plain one that uses it.
+/// A head that is a plain alias of a generic one, or of u8 inside a substitution; and a generic alias behind the plain
+/// one that uses it.
 fn heads(to: &mut Books) {
     let mut d = used(array_of_parameter, &[10]);
     let t = d.named(1);
@@ -289,6 +290,13 @@ fn heads(to: &mut Books) {
     let t = d.generic_u8(5);
     d.newtype(3, t);
     to.add("head-by-plain-alias", &d, accepted(8, 0, 0));
+    let mut d = Draft::default();
+    let t = d.generic_u8(2);
+    d.alias(1, t, &[10]);
+    d.alias_u8(2);
+    let t = d.generic_u8(1);
+    d.newtype(3, t);
+    to.add("inner-head-plain-u8", &d, accepted(4, 1, 0));
     let mut d = Draft::default();
     let t = d.generic_u8(2);
     d.alias(1, t, &[]);
