@@ -1,4 +1,5 @@
-//! Finds the static libraries of the crates `lower` and, where it is asked for, `book`.
+//! Finds the static libraries of the crates `lower` and, where it is asked for, `book`: in the folder `$STATICLIB`, else
+//! where `rt staticlib` writes them.
 
 use std::path::{Path, PathBuf};
 use std::{env, process};
@@ -15,8 +16,9 @@ fn link(folder: &Path, name: &str) {
 }
 
 fn main() {
+    println!("cargo:rerun-if-env-changed=STATICLIB");
     let root = PathBuf::from(env::var("CARGO_MANIFEST_DIR").unwrap()).join("../..");
-    let folder = root.join("target/staticlib");
+    let folder = env::var_os("STATICLIB").map_or(root.join("target/staticlib"), PathBuf::from);
     println!("cargo:rustc-link-search=native={}", folder.display());
     link(&folder, "lower");
     if env::var_os("CARGO_FEATURE_READING").is_some() {

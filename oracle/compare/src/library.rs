@@ -1,7 +1,7 @@
 //! The proved library beside the model, where it is linked (the features `proved` and `reading`).
 
 use crate::judge::Run;
-#[cfg(any(test, feature = "proved"))]
+#[cfg(any(test, feature = "reading"))]
 use model::Reply;
 use std::sync::atomic::{AtomicU64, Ordering};
 
@@ -37,21 +37,10 @@ pub fn lowered(_book: &[u8], model: Run) -> Result<Run, String> {
     Ok(model)
 }
 
-/// The four words of a reply.
-#[cfg(any(test, feature = "proved"))]
-fn words(reply: Reply) -> [u64; 4] {
-    match reply {
-        Reply::Accepted { results, diagnostics, constants } => {
-            [0, results as u64, diagnostics as u64, constants as u64]
-        }
-        Reply::Refused { number, place } => [number as u64, place as u64, 0, 0],
-    }
-}
-
 /// The library's words and slices are the model's.
 #[cfg(any(test, feature = "proved"))]
 fn same(reply: [u64; 4], slices: (&[u8], &[u8]), model: &Run) -> Result<(), String> {
-    if reply != words(model.reply) {
+    if reply != model.reply.words() {
         return Err(format!("the proved library replies {reply:?}, but the model says {:?}", model.reply));
     }
     for (what, ours, expected) in [("results", slices.0, &model.results), ("diagnostics", slices.1, &model.diagnostics)]
@@ -79,7 +68,7 @@ fn read(refusal: Option<(u8, u32)>, reply: Reply) -> Result<(), String> {
 
 #[cfg(test)]
 mod tests {
-    use super::{read, same, words};
+    use super::{read, same};
     use crate::judge::Run;
     use model::{Reply, Trace};
 
@@ -102,8 +91,8 @@ mod tests {
 
     #[test]
     fn replies_are_four_words() {
-        assert_eq!(words(ACCEPTED), [0, 4, 0, 2]);
-        assert_eq!(words(refused(10, 7)), [10, 7, 0, 0]);
+        assert_eq!(ACCEPTED.words(), [0, 4, 0, 2]);
+        assert_eq!(refused(10, 7).words(), [10, 7, 0, 0]);
     }
 
     #[test]

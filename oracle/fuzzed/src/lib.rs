@@ -1,25 +1,13 @@
 //! What libFuzzer calls: one input through the proved library and the model, and changes of an input. The script
-//! `fuzz` links it with a library that has counters.
+//! `fuzz` builds it over a library that has counters.
 
 mod guarded;
 
 use books::{Input, Rest, Rng};
 use guarded::Guarded;
-use model::Reply;
 use std::cell::RefCell;
 
 extern "C" {
-    /// The exported function of crates/lower.
-    fn signal_book_lower(
-        book: *const u8,
-        book_len: usize,
-        results: *mut u8,
-        results_len: usize,
-        diagnostics: *mut u8,
-        diagnostics_len: usize,
-        reply: *mut [u64; 4],
-    );
-
     /// libFuzzer's own changes.
     fn LLVMFuzzerMutate(data: *mut u8, size: usize, most: usize) -> usize;
 }
@@ -34,33 +22,6 @@ fn pattern(i: usize) -> u8 {
     (5 * i + 17) as u8
 }
 
-fn words(reply: Reply) -> [u64; 4] {
-    match reply {
-        Reply::Accepted { results, diagnostics, constants } => {
-            [0, results.into(), diagnostics.into(), constants.into()]
-        }
-        Reply::Refused { number, place } => [number.into(), place.into(), 0, 0],
-    }
-}
-
-/// The library's reply to a book, in slices that are lent in place.
-fn lower(book: &[u8], results: &mut [u8], diagnostics: &mut [u8]) -> [u64; 4] {
-    let mut reply = [u64::MAX; 4];
-    // SAFETY: three slices that lie apart, and four words.
-    unsafe {
-        signal_book_lower(
-            book.as_ptr(),
-            book.len(),
-            results.as_mut_ptr(),
-            results.len(),
-            diagnostics.as_mut_ptr(),
-            diagnostics.len(),
-            &mut reply,
-        )
-    };
-    reply
-}
-
 /// The library and the model give the same reply and leave the same bytes; or the process ends, and the fuzzer keeps
 /// the input.
 fn agree(input: &Input, lent: &mut [Guarded; 3]) {
@@ -69,9 +30,9 @@ fn agree(input: &Input, lent: &mut [Guarded; 3]) {
     let mut diagnostics: Vec<u8> = (0..lengths.1).map(pattern).collect();
     let [book, r, d] = lent;
     let (book, r, d) = (book.filled(&bytes), r.filled(&results), d.filled(&diagnostics));
-    let reply = lower(book, r, d);
+    let reply = proved::lower(book, r, d);
     let (expected, _) = model::lower_book(&bytes, &mut results, &mut diagnostics);
-    let same = reply == words(expected) && r == results && d == diagnostics && book == bytes;
+    let same = reply == expected.words() && r == results && d == diagnostics && book == bytes;
     if !same {
         eprintln!("the proved library replies {reply:?}, the model {expected:?}; or a byte differs");
         std::process::abort();

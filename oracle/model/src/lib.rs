@@ -26,6 +26,18 @@ pub enum Reply {
     Refused { number: u8, place: u32 },
 }
 
+impl Reply {
+    /// The four words in which Rust and C get a reply: 0 and the three counts, or the number, the place and two zeros.
+    pub fn words(self) -> [u64; 4] {
+        match self {
+            Reply::Accepted { results, diagnostics, constants } => {
+                [0, results.into(), diagnostics.into(), constants.into()]
+            }
+            Reply::Refused { number, place } => [number.into(), place.into(), 0, 0],
+        }
+    }
+}
+
 /// What the lowering did that the slices do not show; all empty or zero where the book is refused by 1 to 8.
 ///
 /// Reading: where it is refused by 9 or 10, the entries of finished parts stand, those of the
