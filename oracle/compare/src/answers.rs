@@ -349,3 +349,15 @@ pub fn show(folder: &str, name: Option<&str>) -> Result<String, String> {
     }
     Ok(text)
 }
+
+#[cfg(test)]
+mod tests {
+    /// The list in the repository is what `make` would write. The original wants a deep stack for the deepest trees.
+    #[test]
+    fn the_list_is_as_made() {
+        let folder = concat!(env!("CARGO_MANIFEST_DIR"), "/../../crates/replay");
+        let checked = std::thread::Builder::new().stack_size(256 << 20).spawn(|| super::check(folder));
+        let said = checked.expect("a thread").join().expect("a thread that ends");
+        assert_eq!(said, Ok("the list is as made".to_string()));
+    }
+}
