@@ -27,8 +27,9 @@ OUTSIDE = 'outside functions'
 CODE = 0
 
 Function = namedtuple('Function', 'name first last')
-# number: of the line; count: how many regions that start there are unreached, or 'whole' for a function never entered
-Entry = namedtuple('Entry', 'function number count text why')
+# number: of the line; count: how many regions that start there are unreached, or 'whole' for a function never entered; what: in
+# words, for people
+Entry = namedtuple('Entry', 'function number count what why')
 # scope: the table, from function to why it is in; entries: what is explained; faults: what cannot be read
 Listed = namedtuple('Listed', 'scope entries faults')
 
@@ -148,7 +149,7 @@ def listed(text):
             why = ' '.join(line[2:] for line in lines if line.startswith('= '))
             found = [ENTRY.fullmatch(line) for line in lines if not line.startswith('= ')]
             if not (why and found and all(found)):
-                faults.append(f'{head}: no function with lines of the form NUMBER COUNT TEXT, and = with the reason')
+                faults.append(f'{head}: no function with lines of the form NUMBER COUNT WORDS, and = with the reason')
                 continue
             entries += [Entry(head, int(m[1]), m[2], m[3], why) for m in found]
     return Listed(scope, entries, faults)
@@ -168,11 +169,11 @@ def unreached_lines(lower, scope):
 def fault_of(entry, lower, now):
     """What is wrong with an entry, if anything is."""
     place = f'{entry.function}, line {entry.number}'
-    text = lower.text(entry.number) if 0 < entry.number <= len(lower.lines) else ''
     holders = [f.name for f in lower.functions if f.first <= entry.number <= f.last]
     count = now.get((entry.function, entry.number))
-    if text != entry.text or entry.function not in holders:
-        return f'no longer there: {place}: {entry.text}'
+    if entry.function not in holders:
+        return f'not a line of that function: {place}: {entry.what}'
+    text = lower.text(entry.number)
     if count is None:
         return f'explained, but reached or out of scope: {place}: {text}'
     if count != entry.count:
@@ -276,17 +277,17 @@ def wrong_lists(lower, scope, text):
     """Wrong lists, each with what it is and the start of what has to be said of it."""
     known = listed(text)
     for e in known.entries:
-        line = f'{e.number} {e.count} {e.text}'
+        line = f'{e.number} {e.count} {e.what}'
         place = f'{e.function}, line {e.number}'
         yield f'without {place}', without(text, line), f'unexplained: {place},'
-        yield f'{place} with another text', text.replace(line, line + ' //'), f'no longer there: {place}:'
-        yield f'{place} with another number', text.replace(line, f'{e.number} 99 {e.text}'), 'explained for 99 unreached'
+        yield f'{place} as another line', text.replace(line, f'1{line}'), f'not a line of that function: {e.function}, line 1'
+        yield f'{place} with another count', text.replace(line, f'{e.number} 99 {e.what}'), 'explained for 99 unreached'
         yield f'{place} twice', text.replace(line, line + '\n' + line), f'explained twice: {place}'
     for name in scope:
         yield f'{name} out of the table', without(text, f'{name}: {scope[name]}'), f'scope: {name} is'
         whole = {region[0] for region in lower.regions[name]} - {region[0] for region in lower.unreached(name)}
         for number in sorted(whole)[:1]:
-            entry = f'\n\n{name}\n{number} 1 {lower.text(number)}\n= It is reached.\n'
+            entry = f'\n\n{name}\n{number} 1 reached\n= It is reached.\n'
             yield f'{name}, line {number} added', text + entry, f'explained, but reached or out of scope: {name}, line'
     yield 'no reasons', re.sub(r'(?m)^= .*\n?', '', text), known.entries[0].function
 
