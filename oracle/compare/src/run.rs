@@ -91,7 +91,7 @@ pub fn readable_book(seed: u64, n: u64) -> (Book, (usize, usize)) {
     (book, lent)
 }
 
-/// Every so manieth readable book is lowered with its slices cut behind each of its records.
+/// One readable book in so many is lowered with its slices cut behind each of its records.
 const CUT: u64 = 64;
 
 /// Judges readable book number n.
