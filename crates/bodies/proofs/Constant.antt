@@ -6,7 +6,7 @@ use mathlib.Core.List.{List, [], _∷_, map}
 use mathlib.Core.Option.{Option, some, none}
 use mathlib.Core.Path.{_≡_, refl, ap}
 use native.Mathlib.Omega.{arith}
-use lib.Dec.{eqb}
+use lib.Dec.{eqb, lit≤}
 use lib.IntN.{ℤ}
 use lib.ListN.{length}
 use Rattle.record.specs.declared.Record.{Record}
@@ -19,6 +19,7 @@ use Rattle.constants.specs.Values.{IsI64}
 use Rattle.types.specs.Lowering.{andThen}
 use Rattle.types.specs.Events.{writes, events, written}
 use Rattle.types.specs.Step.{_>>_, emit, give}
+use Rattle.types.specs.Diagnostic.{IsDiagnostic}
 use Rattle.types.proofs.Steps.{Fine, Keeps, keeps-give, keeps-at, keeps-emit, keeps-tell, keeps-then, keeps-next}
 use Rattle.types.proofs.Passing.{Writes, writes-then, writes-after}
 use Rattle.types.proofs.Resolving.{within, keeps-type}
@@ -26,10 +27,10 @@ use Rattle.bodies.specs.Constant.{tellUnless, constantRecord, lowerConst
 
 -- within their widths, where it is not asked that no result is a 41
 module _ {W S : Type 0} where
-  keeps-tell-unless : (o : Option ℤ) (r : Record) → (W → Within r) → Keeps W S (λ x. Unit) (tellUnless o r)
+  keeps-tell-unless : (o : Option ℤ) (r : Record) → IsDiagnostic r → (W → Within r) → Keeps W S (λ x. Unit) (tellUnless o r)
   unfolding tellUnless
-  keeps-tell-unless (some z) r h = keeps-give tt tt
-  keeps-tell-unless none r h = keeps-tell r h
+  keeps-tell-unless (some z) r is h = keeps-give tt tt
+  keeps-tell-unless none r is h = keeps-tell r is h
 
   fine-constant :
       (o : Option ℤ) (r : Record) (type : ℕ) → (S → ⊥) → (W → IsI64 o × Within r × (type < 2 ^ 16)) →
@@ -49,7 +50,7 @@ module _ {W S : Type 0} (book : Book) (given : W → All Within (book .records))
       (keeps-then (keeps-type book given (r .b))
       (λ t q.
       keeps-next
-      (keeps-tell-unless (c .value) _ (λ w. omega (arith, within book given n w, within book given (r .c) w)))
+      (keeps-tell-unless (c .value) _ (record { kind = refl; class = lit≤ tt; unused = refl }) (λ w. omega (arith, within book given n w, within book given (r .c) w)))
       (keeps-next
       (keeps-emit _ (fine-constant (c .value) r (t .root) no-s (λ w. (h w, within book given n w, q w .0))))
       (keeps-give tt tt))))

@@ -101,12 +101,12 @@ module _ (book results diagnostics : List ℕ) where
   lower-ended o e h = rw (e, lowerBook, h)
 
   -- the three ways that a book goes: refused by 1 to 8, refused by 9 or 10, accepted
-  data Goes : Type 0 where
+  pub data Goes : Type 0 where
     turned-back : (x : Refusal) → firstRefusal book ≡ some x → Goes
     stops : (c : Stop) (p : ℕ) → firstRefusal book ≡ none → outcome ≡ stopped c p → Goes
     ends : (a : Unit × Names) (s : State) → firstRefusal book ≡ none → outcome ≡ finished a s → Goes
 
-  goes : Goes
+  pub goes : Goes
   goes = by (firstRefusal book) refl outcome refl
     where
       by : (o : Option Refusal) → firstRefusal book ≡ o → (u : Out (Unit × Names)) → outcome ≡ u → Goes

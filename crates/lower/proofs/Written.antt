@@ -1,4 +1,4 @@
--- No step beyond the 65th, records within their widths, and the 41s those of the reached constants.
+-- No step beyond the 65th, records within their widths, diagnostics of their form, and the 41s those of the reached constants.
 -- Assumes nothing.
 use Prim.Native.Nat.{ℕ, suc, _^_, _≤_, _<_}
 use mathlib.Core.Bool.{Bool, true, false}
@@ -23,6 +23,7 @@ use Rattle.types.specs.Lowering.{start}
 use Rattle.types.specs.Events.{Event, lowers, resolves, tells, writes, events, written, told}
 use Rattle.types.specs.Resolved.{Names}
 use Rattle.types.specs.Step.{isStored}
+use Rattle.types.specs.Diagnostic.{IsDiagnostic}
 use Rattle.types.specs.Numbers.{plainAliases, registerDeclarations}
 use Rattle.types.proofs.Does.{all-events, all-split}
 use Rattle.types.proofs.Steps.{Sound, Below, Fine, keeps-next, keeps-each}
@@ -34,7 +35,7 @@ use Rattle.bodies.specs.Constant.{constantsIn}
 use Rattle.bodies.proofs.Constant.{keeps-constants, writes-constants, marked, marked-are-counted}
 use Rattle.bodies.proofs.Bodies.{keeps-bodies}
 use Rattle.lower.specs.LowerBook.{lowerRecords}
-use Rattle.lower.specs.Written.{NoStepBeyond, WrittenWithin, ReachedAreWritten, StoredAreCounted}
+use Rattle.lower.specs.Written.{NoStepBeyond, WrittenWithin, ToldAreDiagnostics, ReachedAreWritten, StoredAreCounted}
 
 -- of all that is done for a book. Where W is given, its records, the values of its constants and the names of its declarations are within
 -- their widths, and so are the numbers of results.
@@ -57,6 +58,17 @@ pub no-step-beyond : NoStepBeyond
 no-step-beyond book before rest d e =
     all-split (Fine ⊥ ⊥) before rest (resolves d)
     (subst (All (Fine ⊥ ⊥)) e (all-fine ⊥ book (λ w. absurd w) (λ m l w. absurd w)))
+
+all-told : (es : List Event) → All (Fine ⊥ ⊥) es → All IsDiagnostic (told es)
+unfolding told
+all-told [] h = tt
+all-told (lowers p ∷ es) h = all-told es (h .1)
+all-told (resolves d ∷ es) h = all-told es (h .1)
+all-told (tells r ∷ es) h = (h .0 .0, all-told es (h .1))
+all-told (writes r ∷ es) h = all-told es (h .1)
+
+pub told-are-diagnostics : ToldAreDiagnostics
+told-are-diagnostics book = all-told _ (all-fine ⊥ book (λ w. absurd w) (λ m l w. absurd w))
 
 pub reached-are-written : ReachedAreWritten
 unfolding lowerRecords constantsIn
@@ -88,7 +100,7 @@ unfolding written told
 all-written [] h = (tt, tt)
 all-written (lowers p ∷ es) h = all-written es (h .1)
 all-written (resolves d ∷ es) h = all-written es (h .1)
-all-written (tells r ∷ es) h = let x = all-written es (h .1) in (x .0, (h .0 tt, x .1))
+all-written (tells r ∷ es) h = let x = all-written es (h .1) in (x .0, (h .0 .1 tt, x .1))
 all-written (writes r ∷ es) h = let x = all-written es (h .1) in ((h .0 .1 tt, x .0), x .1)
 
 pub written-within : WrittenWithin

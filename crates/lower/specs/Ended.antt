@@ -16,9 +16,10 @@ use Rattle.types.specs.Registered.{Registered}
 use Rattle.types.specs.Lowers.{GoesOn}
 use Rattle.bodies.specs.Constant.{lowerConstants}
 use Rattle.bodies.specs.Bodies.{lowerBodies}
-use Rattle.lower.specs.declared.Reply as code
-use Rattle.lower.specs.LowerBook.{lowerRecords, ended}
+use Rattle.lower.specs.declared.Counted.{Counted}
+use Rattle.lower.specs.LowerBook.{lowerRecords, lowerRead, ended}
 use Rattle.lower.specs.Promise.{outcomeOf}
+use Rattle.lower.specs.Counters.{counted}
 
 -- the slices as they were lent
 abbrev pub lentOf : List ℕ → List ℕ → Lent
@@ -43,10 +44,16 @@ pub record LowersBook (book results diagnostics : List ℕ) (x : Part) (results�
       GoesOn book scope (lentOf results diagnostics) aliases (held numbers pairs results′ diagnostics′) x
       (run (usedLimits results diagnostics) (lowerRecords (settled (read book)) (read book)) start)
 
--- the reply to an end that an answer stands for, and what is left in the slices
-abbrev pub Replies : Part → ℕ → List ℕ → List ℕ → code.Reply → List ℕ → List ℕ → Type 0
-Replies x stored results diagnostics reply results′ diagnostics′ =
+-- the counters and the reply to an end that an answer stands for, and what is left in the slices
+abbrev pub Replies : Part → ℕ → List ℕ → List ℕ → Counted → List ℕ → List ℕ → Type 0
+Replies x stored results diagnostics c results′ diagnostics′ =
     (book : List ℕ) (scope : Scope) (lent : Lent) (aliases numbers pairs : List ℕ) (out : Out (Unit × Names)) →
     GoesOn book scope lent aliases (held numbers pairs results diagnostics) x out →
-    outcomeOf reply results′ diagnostics′
-    ≡ ended stored (usedLimits (lent .results) (lent .diagnostics)) (lent .results) (lent .diagnostics) out
+    (outcomeOf (c .reply) results′ diagnostics′
+    ≡ ended stored (usedLimits (lent .results) (lent .diagnostics)) (lent .results) (lent .diagnostics) out)
+    × (c .ctx ≡ counted out)
+
+-- a book that reading accepts was lowered
+pub record LowersRead (book results diagnostics : List ℕ) (c : Counted) (results′ diagnostics′ : List ℕ) : Type 0 where
+  pub outcome : outcomeOf (c .reply) results′ diagnostics′ ≡ lowerRead (settled (read book)) (read book) results diagnostics
+  pub counters : c .ctx ≡ counted (run (usedLimits results diagnostics) (lowerRecords (settled (read book)) (read book)) start)

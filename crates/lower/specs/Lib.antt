@@ -1,5 +1,6 @@
 pub mod LowerBook
 pub mod Promise
+pub mod Counters
 pub mod Ended
 pub mod Written
 pub mod Laws

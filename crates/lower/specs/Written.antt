@@ -12,9 +12,10 @@ use Rattle.book.specs.Refusal.{firstRefusal}
 use Rattle.book.specs.Outline.{Book, read}
 use Rattle.constants.specs.OfBook.{settled}
 use Rattle.types.specs.Lowering.{Limits, State, start, finished, run}
-use Rattle.types.specs.Events.{Event, resolves, events, written}
+use Rattle.types.specs.Events.{Event, resolves, events, written, told}
 use Rattle.types.specs.Resolved.{Names}
 use Rattle.types.specs.Step.{isStored}
+use Rattle.types.specs.Diagnostic.{IsDiagnostic}
 use Rattle.bodies.specs.Constant.{constantsIn, constantOf, storedCount}
 use Rattle.lower.specs.LowerBook.{lowerRecords}
 
@@ -33,6 +34,10 @@ WrittenWithin =
     most .results ≤ 2048 →
     run most (lowerRecords (settled (read book)) (read book)) start ≡ finished a s →
     All Within (s .results) × All Within (s .diagnostics)
+
+-- every diagnostic that is told has the form of one
+abbrev pub ToldAreDiagnostics : Type 0
+ToldAreDiagnostics = (book : Book) → All IsDiagnostic (told (events (lowerRecords (settled book) book) 0))
 
 -- the 41s that are written are those of the reached constants, in their order, by name, mark and value
 abbrev pub ReachedAreWritten : Type 0

@@ -4,10 +4,12 @@ ghost use mathlib.Core.Path.{_≡_};
 ghost use Rattle.types.specs.Lowering.{stopNumber};
 ghost use Rattle.types.specs.Standing.{stopOf};
 ghost use Rattle.lower.specs.Promise.{causeNumber, replyOf, replyWords, Lowered, Exported};
+ghost use Rattle.lower.specs.Counters.{countersAfter};
 
 mod parts;
 
 use book::Reading;
+use types::LowerCtx;
 use types::Stop;
 
 // Why a book is turned back: found by reading it, causes 1 to 8, or by lowering it, 9 and 10.
@@ -30,6 +32,12 @@ pub enum Reply {
     },
 }
 
+// The counters behind the lowering of a book, and the reply.
+pub struct Counted {
+    pub ctx: LowerCtx,
+    pub reply: Reply,
+}
+
 // The number of a cause that is found by lowering.
 fn stop_number(stop: Stop) -> u8
     ensures { λ r. ⌜ r ≡ stopNumber (stopOf stop) ⌝ }
@@ -50,20 +58,43 @@ pub fn number(cause: Cause) -> u8
     }
 }
 
-// Lowers a book: any bytes at all, into two slices of any lengths. Results and diagnostics are written from the front of
-// each. A book that causes 1 to 8 turn back leaves both as they were; 9 and 10 leave zeros up to the limits.
-pub fn lower_book(book: &[u8], results: &mut [u8], diagnostics: &mut [u8]) -> Reply
-    ensures { λ r. ⌜ Lowered (now (book .entry)) (now (results .entry)) (now (diagnostics .entry)) r (now (results .exit)) (now (diagnostics .exit)) ⌝ }
+// Lowers a book: any bytes at all, into two slices of any lengths, with the counters by value. They are handed back where
+// causes 1 to 8 turn the book back, and else count from 0: numbers given, results and diagnostics written.
+pub fn lower_counted(
+    ctx: LowerCtx,
+    book: &[u8],
+    results: &mut [u8],
+    diagnostics: &mut [u8],
+) -> Counted
+    ensures { λ r. ⌜ Lowered (now (book .entry)) (now (results .entry)) (now (diagnostics .entry)) (r .reply) (now (results .exit)) (now (diagnostics .exit)) ⌝ }
+    ensures { λ r. ⌜ r .ctx ≡ countersAfter ctx (now (book .entry)) (now (results .entry)) (now (diagnostics .entry)) ⌝ }
 {
     match book::read_book(book) {
         Reading::Accepted { records, wildcards } => {
             parts::lower_read(book, records, wildcards, results, diagnostics)
         }
-        Reading::Refused { cause, place } => Reply::Refused {
-            cause: Cause::Reading(cause),
-            place,
+        Reading::Refused { cause, place } => Counted {
+            ctx,
+            reply: Reply::Refused {
+                cause: Cause::Reading(cause),
+                place,
+            },
         },
     }
+}
+
+// Lowers a book: any bytes at all, into two slices of any lengths. Results and diagnostics are written from the front of
+// each. A book that causes 1 to 8 turn back leaves both as they were; 9 and 10 leave zeros up to the limits.
+pub fn lower_book(book: &[u8], results: &mut [u8], diagnostics: &mut [u8]) -> Reply
+    ensures { λ r. ⌜ Lowered (now (book .entry)) (now (results .entry)) (now (diagnostics .entry)) r (now (results .exit)) (now (diagnostics .exit)) ⌝ }
+{
+    let ctx = LowerCtx {
+        next: 0,
+        results: 0,
+        diagnostics: 0,
+    };
+    let behind = lower_counted(ctx, book, results, diagnostics);
+    behind.reply
 }
 
 // The reply as four words: 0 and the three counts; or the number of the cause, the place, and zeros.

@@ -8,16 +8,14 @@ ghost use Rattle.book.specs.Blocks.{recordCount, wildcards};
 ghost use Rattle.book.specs.Outline.{read};
 ghost use Rattle.book.specs.Trees.{Readable};
 ghost use Rattle.constants.specs.Order.{Settled};
-ghost use Rattle.constants.specs.OfBook.{settled};
 ghost use Rattle.constants.specs.Evaluated.{hasValue};
 ghost use Rattle.types.specs.Standing.{held, Reads, Stands};
 ghost use Rattle.types.specs.Lowers.{LowersPart};
 ghost use Rattle.bodies.specs.Constant.{storedCount};
 ghost use Rattle.bodies.specs.Lowers.{Holds};
-ghost use Rattle.lower.specs.LowerBook.{lowerRead};
-ghost use Rattle.lower.specs.Promise.{outcomeOf};
-ghost use Rattle.lower.specs.Ended.{lowerRest, Numbered, LowersBook, Replies};
+ghost use Rattle.lower.specs.Ended.{lowerRest, Numbered, LowersBook, Replies, LowersRead};
 use crate::Cause;
+use crate::Counted;
 use crate::Reply;
 use bodies::consts;
 use bodies::decls;
@@ -197,22 +195,32 @@ fn lower_records(
     )
 }
 
-// The reply to how a lowering ended. A refusal leaves zeros up to the limits.
-fn reply_to(end: Part, stored: u16, results: &mut [u8], diagnostics: &mut [u8]) -> Reply
+// The counters behind a lowering, and the reply to how it ended. A refusal leaves zeros up to the limits.
+fn reply_to(end: Part, stored: u16, results: &mut [u8], diagnostics: &mut [u8]) -> Counted
     ensures { λ r. ⌜ Replies end stored (now (results .entry)) (now (diagnostics .entry)) r (now (results .exit)) (now (diagnostics .exit)) ⌝ }
 {
     match end {
-        Part::Lowered(behind) => Reply::Accepted {
-            results: behind.results,
-            diagnostics: behind.diagnostics,
-            constants: stored,
+        Part::Lowered(behind) => Counted {
+            ctx: behind,
+            reply: Reply::Accepted {
+                results: behind.results,
+                diagnostics: behind.diagnostics,
+                constants: stored,
+            },
         },
         Part::Refused { stop, place } => {
             write::clear(results, MOST_RESULTS);
             write::clear(diagnostics, MOST_DIAGNOSTICS);
-            Reply::Refused {
-                cause: Cause::Lowering(stop),
-                place,
+            Counted {
+                ctx: LowerCtx {
+                    next: 0,
+                    results: 0,
+                    diagnostics: 0,
+                },
+                reply: Reply::Refused {
+                    cause: Cause::Lowering(stop),
+                    place,
+                },
             }
         }
     }
@@ -242,10 +250,9 @@ pub(crate) fn lower_read(
     imports: bool,
     results: &mut [u8],
     diagnostics: &mut [u8],
-) -> Reply
+) -> Counted
     requires { ⌜ Readable (now book) × (count ≡ recordCount (now book)) × (imports ≡ wildcards (now book)) ⌝ }
-    ensures { λ r. ⌜ outcomeOf r (now (results .exit)) (now (diagnostics .exit))
-        ≡ lowerRead (settled (read (now (book .entry)))) (read (now (book .entry))) (now (results .entry)) (now (diagnostics .entry)) ⌝ }
+    ensures { λ r. ⌜ LowersRead (now (book .entry)) (now (results .entry)) (now (diagnostics .entry)) r (now (results .exit)) (now (diagnostics .exit)) ⌝ }
 {
     let mut known = [false; NAMES];
     let mut worth = [0u64; NAMES];

@@ -88,7 +88,7 @@ module _ {W S : Type 0} where
           Resolves W S (resolveName book n span) s k
       go s k g (type t) e z = rw e (keeps-whole t z .does s k g)
       go s k g stub e z = rw e (fresh W S s (withStub n s) k g (λ w b. stub-sound n s k b (g w)))
-      go s k g (unresolved m) e z = rw e (keeps-poison {W = W} {S = S} m n 0 0 span (λ w. omega (arith, h w, q w, z w)) .does s k g)
+      go s k g (unresolved m) e z = rw e (keeps-poison {W = W} {S = S} m n 0 0 span (lit≤ tt) (λ w. omega (arith, h w, q w, z w)) .does s k g)
 
   keeps-qualified :
       (space n : ℕ) (span : Span) → (W → (space < 2 ^ 16) × (n < 2 ^ 16)) → (W → SizedSpan span) →
@@ -102,7 +102,7 @@ module _ {W S : Type 0} where
           Resolves W S (resolveQualified space n span) s k
       go s k g (type t) e z = rw e (keeps-whole t z .does s k g)
       go s k g stub e z = rw e (fresh W S s (withPair space n s) k g (λ w b. pair-sound space n s k b (g w)))
-      go s k g (unresolved m) e z = rw e (keeps-poison {W = W} {S = S} m space n 0 span (λ w. omega (arith, h w, q w, z w)) .does s k g)
+      go s k g (unresolved m) e z = rw e (keeps-poison {W = W} {S = S} m space n 0 span (lit≤ tt) (λ w. omega (arith, h w, q w, z w)) .does s k g)
 
   module _ (book : Book) (given : W → All Within (book .records)) where
     -- one record, given what is done with a child and with a generic's target
@@ -130,8 +130,8 @@ module _ {W S : Type 0} where
             (s : Names) (k : ℕ) → (W → Sound s k) → (f : Head) → findHead book n s ≡ f →
             Resolves W S (resolveBy book child target unknown (generic n argument) span) s k
         go s k g (alias x) e = rw e (t _ (x .target) span q .does s k g)
-        go s k g noAlias e = rw e (keeps-poison {W = W} {S = S} 3 n 0 1 span (λ w. omega (arith, h w, q w)) .does s k g)
-        go s k g noNumber e = rw e (keeps-poison {W = W} {S = S} unknown n 0 0 span (λ w. omega (arith, h w, q w)) .does s k g)
+        go s k g noAlias e = rw e (keeps-poison {W = W} {S = S} 3 n 0 1 span (lit≤ tt) (λ w. omega (arith, h w, q w)) .does s k g)
+        go s k g noNumber e = rw e (keeps-poison {W = W} {S = S} unknown n 0 0 span (lit≤ tt) (λ w. omega (arith, h w, q w)) .does s k g)
 
     -- one step
     keeps-beyond : Keeps W S (Right W) beyond

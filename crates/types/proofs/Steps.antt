@@ -16,6 +16,7 @@ use Rattle.types.specs.Resolved.{ResolvedType, primitive, subByte, seman
 use Rattle.types.specs.Resolved.{Names, POISON}
 use Rattle.types.specs.Step.{Step, Resolved, _>>=_, _>>_, give, at, emit, tell, change, forEach, message}
 use Rattle.types.specs.Step.{emitType, whole, overOne, overTwo, poison}
+use Rattle.types.specs.Diagnostic.{IsDiagnostic}
 use Rattle.types.proofs.Does.{Does, does-then}
 
 -- a type's fields are within their widths
@@ -54,7 +55,7 @@ module _ (W S : Type 0) where
   abbrev pub Fine : Event → Type 0
   Fine (lowers p) = Unit
   Fine (resolves d) = d ≤ 65
-  Fine (tells r) = W → Within r
+  Fine (tells r) = IsDiagnostic r × (W → Within r)
   Fine (writes r) = (S → isKind 41 r ≡ false) × (W → Within r)
 
   pub record Keeps {A : Type 0} (R : A → Type 0) (m : Step A) : Type 0 where
@@ -74,8 +75,8 @@ module _ {W S : Type 0} where
   pub keeps-emit : (r : Record) → Fine W S (writes r) → Keeps W S (Below W) (emit r)
   keeps-emit r fine = record { does = λ s n g below. (fine, (below, λ w. one-more (g w))) }
 
-  pub keeps-tell : (r : Record) → (W → Within r) → Keeps W S (λ x. Unit) (tell r)
-  keeps-tell r h = record { does = λ s n g. (h, (tt, g)) }
+  pub keeps-tell : (r : Record) → IsDiagnostic r → (W → Within r) → Keeps W S (λ x. Unit) (tell r)
+  keeps-tell r is h = record { does = λ s n g. ((is, h), (tt, g)) }
 
   pub keeps-change : (f : Names → Names) → (W → (s : Names) (n : ℕ) → Sound s n → Sound (f s) n) → Keeps W S (λ x. Unit) (change f)
   keeps-change f h = record { does = λ s n g. (tt, λ w. h w s n (g w)) }
@@ -140,7 +141,9 @@ module _ {W S : Type 0} where
 
   pub keeps-poison :
       (m a b class : ℕ) (span : Span) →
+      class ≤ 2 →
       (W → Within (message m a b class span)) →
       Keeps W S (Right W) (poison m a b class span)
   unfolding poison
-  keeps-poison m a b class span h = keeps-next (keeps-tell _ h) (keeps-whole (named POISON) (λ w. lit< tt))
+  keeps-poison m a b class span c h =
+      keeps-next (keeps-tell _ (record { kind = refl; class = c; unused = refl }) h) (keeps-whole (named POISON) (λ w. lit< tt))

@@ -2,6 +2,7 @@ pub mod Lowering
 pub mod Events
 pub mod Resolved
 pub mod Step
+pub mod Diagnostic
 pub mod Numbers
 pub mod Resolve
 pub mod Alias

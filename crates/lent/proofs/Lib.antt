@@ -1,0 +1,4 @@
+pub mod Appending
+pub mod Entering
+pub mod Structs
+pub mod Laws

@@ -1,0 +1,3 @@
+pub mod Diagnostics
+pub mod Lent
+pub mod Laws
