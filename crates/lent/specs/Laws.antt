@@ -1,4 +1,4 @@
--- What is claimed of `lowerLent`; the proofs are in proofs/Laws.antt. Words in quotation marks are document 01's.
+-- What is claimed of `lowerLent`; the proofs are in proofs/Laws.antt and proofs/Structs.antt. Words in quotation marks are document 01's.
 -- Assumes nothing.
 use Prim.Native.Nat.{ℕ, _≤_, _<_, _^_, min}
 use mathlib.Core.List.{List, map}
@@ -9,12 +9,14 @@ use Rattle.book.specs.Lists.{All}
 use Rattle.book.specs.Outline.{read}
 use Rattle.types.specs.declared.LowerCtx.{LowerCtx}
 use Rattle.types.specs.Events.{told}
+use Rattle.lower.specs.declared.Reply as code
 use Rattle.lower.specs.LowerBook.{Reply, accepted, refused, lowerBook}
+use Rattle.lower.specs.Promise.{replyOf, Lowered}
 use Rattle.lower.specs.Laws.{doings}
 use Rattle.lower.specs.Counters.{numbersGiven}
 use Rattle.lent.specs.declared.Diagnostic.{Diagnostic}
 use Rattle.lent.specs.Diagnostics.{diagnosticOf, encoded, noDiagnostic}
-use Rattle.lent.specs.Lent.{LentOutcome, lowerLent}
+use Rattle.lent.specs.Lent.{LentOutcome, lowerLent, LoweredLent}
 
 -- The record form is the byte form: with the bytes of the structs lent, `lowerBook` gives the same reply and results, and leaves the bytes of the
 -- structs that are left
@@ -28,6 +30,36 @@ abbrev pub RecordFormIsByteForm : Type 0
 RecordFormIsByteForm =
     (ctx : LowerCtx) (book results : List ℕ) (lent : List Diagnostic) →
     AreBytes book → SameAsBytes book results lent (lowerLent ctx book results lent)
+
+-- Over runs: whatever `lower_lent` answered and left, and whatever `lower_book` did with the bytes of the same structs for a diagnostics slice. Each is
+-- known by its promise alone
+pub record LentRun : Type 0 where
+  pub ctx : LowerCtx
+  pub book : List ℕ
+  pub results : List ℕ
+  pub lent : List Diagnostic
+  pub reply : code.Reply
+  pub ctx′ : LowerCtx
+  pub results′ : List ℕ
+  pub left : List Diagnostic
+
+pub record ByteRun : Type 0 where
+  pub reply : code.Reply
+  pub results′ : List ℕ
+  pub diagnostics′ : List ℕ
+
+pub record Agree (x : LentRun) (y : ByteRun) : Type 0 where
+  pub same-reply : replyOf (x .reply) ≡ replyOf (y .reply)
+  pub same-results : x .results′ ≡ y .results′
+  pub same-diagnostics : encoded (x .left) ≡ y .diagnostics′
+
+abbrev pub RunsAgree : Type 0
+RunsAgree =
+    (x : LentRun) (y : ByteRun) →
+    AreBytes (x .book) →
+    LoweredLent (x .ctx) (x .book) (x .results) (x .lent) (x .reply) (x .ctx′) (x .results′) (x .left) →
+    Lowered (x .book) (x .results) (encoded (x .lent)) (y .reply) (y .results′) (y .diagnostics′) →
+    Agree x y
 
 -- the fields of a struct are within their widths
 pub record Fits (d : Diagnostic) : Type 0 where

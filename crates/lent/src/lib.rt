@@ -13,7 +13,7 @@ use types::LowerCtx;
 pub mod step;
 
 // The most diagnostics that are told.
-pub const MOST: usize = 256;
+pub const MOST: usize = types::MOST_DIAGNOSTICS as usize;
 
 // The class of a diagnostic, as the source names it.
 pub enum ErrorClass {

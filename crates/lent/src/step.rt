@@ -130,7 +130,7 @@ fn lower_through(
 pub fn lower_step(ctx: LowerCtx, book: &[u8], results: &mut [u8], room: usize) -> Step
     ensures { λ r. ⌜ Stepped ctx (now (book .entry)) (now (results .entry)) room r (now (results .exit)) ⌝ }
 {
-    let mut bytes = [0u8; 6144];
+    let mut bytes = [0u8; RECORD_BYTES * MOST];
     let end = RECORD_BYTES * (limit(room) as usize);
     lower_through(ctx, book, results, &mut bytes[..end], room)
 }

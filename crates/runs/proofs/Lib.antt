@@ -5,3 +5,4 @@ pub mod Slips
 pub mod Edges
 pub mod Refused
 pub mod Demand3
+pub mod Lent

@@ -7,3 +7,4 @@ pub mod Slips
 pub mod Edges
 pub mod Refused
 pub mod Demand3
+pub mod Lent

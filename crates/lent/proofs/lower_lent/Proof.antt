@@ -50,7 +50,7 @@ use Rattle.lower.proofs.Reply.Laws as Y′
 use Rattle.lent.specs.declared.Diagnostic.{Diagnostic}
 use Rattle.lent.specs.declared.step.Step.{Step}
 use Rattle.lent.specs.Lent.{LoweredLent, Stepped}
-use Rattle.lent.proofs.Entering.{lent-of, array-record}
+use Rattle.lent.proofs.Entering.{lent-of, array-of-structs}
 use Rattle.lent.proofs.Diagnostic as D
 use Rattle.lent.proofs.Diagnostic.Laws as D′
 use Rattle.lent.proofs.step.Step as S
@@ -99,7 +99,7 @@ module _ (r : Step) (v : Val) (is : Is S.the-row r (v ∷ [])) where
   count-is = LL.owed S.the-type S′.the-laws r (v ∷ []) is .1 .1 .0
 
   told-is : Is (Array D.the-row 256) (r .told) (told-val r ∷ [])
-  told-is = array-record D.the-type 256 (r .told) _ (LL.owed S.the-type S′.the-laws r (v ∷ []) is .1 .1 .1 .0)
+  told-is = array-of-structs D.the-type 256 (r .told) _ (LL.owed S.the-type S′.the-laws r (v ∷ []) is .1 .1 .1 .0)
 
 -- the contracts that the proof cites
 module _ {M : Type 1} (𝓤 : URA M) (H : Heap 𝓤) (A : Atoms 𝓤) (at-mem : Memory → SProp 𝓤) (run : Routine → Fun 𝓤) where

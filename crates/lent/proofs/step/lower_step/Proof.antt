@@ -7,7 +7,7 @@ use native.Mathlib.Omega.{arith}
 use lib.ListN.{length, length-replicate}
 use borrow.Author.Needs.{needs}
 use Rattle.lent.specs.Lent.{bytesFor}
-use Rattle.lent.proofs.Laws.{zeros-for}
+use Rattle.lent.proofs.Stepping.{zeros-for}
 use Rattle.lent.proofs.step.lower_step.Statement.{statement}
 use Rattle.lent.proofs.step.lower_step.Tie as tie
 

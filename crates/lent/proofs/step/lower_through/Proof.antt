@@ -7,7 +7,7 @@ use denote.Ref.{now}
 use borrow.Author.Needs.{needs}
 use Rattle.lower.specs.LowerBook.{lowerBook}
 use Rattle.lower.specs.Counters.{countersAfter}
-use Rattle.lent.proofs.Laws.{Lowers, step-few, stepped}
+use Rattle.lent.proofs.Stepping.{Lowers, step-few, stepped}
 use Rattle.lent.proofs.step.lower_through.Statement.{statement}
 use Rattle.lent.proofs.step.lower_through.Tie as tie
 

@@ -4,7 +4,7 @@ use native.Mathlib.Omega.{arith}
 use mathlib.Core.Path.{_∙_}
 use borrow.Author.Needs.{needs}
 use Rattle.lower.specs.Promise.{replyOf}
-use Rattle.lent.proofs.Laws.{count-told, count-none, count-zeros}
+use Rattle.lent.proofs.Ways.{count-told, count-none, count-zeros}
 use Rattle.lent.proofs.step.written.Statement.{statement}
 use Rattle.lent.proofs.step.written.Tie as tie
 
