@@ -1,4 +1,6 @@
--- `lent::append` meets its contract: a walk of its MIR, by hand. At turn k the borrow is closed at the first k of what was told, in front of the list at entry from k on; a turn calls `nth`, of which the proof knows only that it meets its contract, opens the borrow, stores the element at its place and closes the borrow again.
+-- `lent::append` meets its contract: a walk of its MIR, by hand. At turn k the borrow is closed at the first k of what was told, in front of the
+-- list at entry from k on; a turn calls `nth`, of which the proof knows only that it meets its contract, opens the borrow, stores the element at
+-- its place and closes the borrow again.
 -- Assumes nothing.
 use mathlib.Core.Path.{_≡_, refl, sym, _∙_, ap, subst}
 use Prim.Native.Nat.{ℕ, _+_, _-_, _*_, _≤_, _<_, _^_, zero-le}
@@ -81,10 +83,12 @@ module _ {M : Type 1} (𝓤 : URA M) (H : Heap 𝓤) (A : Atoms 𝓤) (mem : Mem
   abbrev Nth : Contract 𝓤
   Nth = tripleOf 𝓤 H A nth.signature (nth.spec 𝓤 H A mem run)
 
-  nth-of : (told : List Diagnostic) (k : ℕ) (r : Diagnostic) → ent 𝓤 (ensured 𝓤 H A nth.ended (nth.clauses 𝓤 H A mem run) tt (told, (k, tt)) tt r) (fact 𝓤 (r ≡ getD told k noDiagnostic))
+  nth-of : (told : List Diagnostic) (k : ℕ) (r : Diagnostic) →
+      ent 𝓤 (ensured 𝓤 H A nth.ended (nth.clauses 𝓤 H A mem run) tt (told, (k, tt)) tt r) (fact 𝓤 (r ≡ getD told k noDiagnostic))
   nth-of told k r = exE 𝓤 _ (λ ws. snd∗ 𝓤 (sem 𝓤 H A (lasts nth.ended tt (told, (k, tt)) ws)) (fact 𝓤 (r ≡ getD told k noDiagnostic)))
 
-module _ {M : Type 1} (𝓤 : URA M) (H : Heap 𝓤) (A : Atoms 𝓤) (W : Given 𝓤 H A) (mem : Memory → SProp 𝓤) (run : Routine → Fun 𝓤) (κ : Lft) (q : Share) (b o : ℕ) (γ : GName) (ys : List Diagnostic) (told : List Diagnostic) (u : Val) (n : ℕ)
+module _ {M : Type 1} (𝓤 : URA M) (H : Heap 𝓤) (A : Atoms 𝓤) (W : Given 𝓤 H A) (mem : Memory → SProp 𝓤) (run : Routine →
+    Fun 𝓤) (κ : Lft) (q : Share) (b o : ℕ) (γ : GName) (ys : List Diagnostic) (told : List Diagnostic) (u : Val) (n : ℕ)
     (room : Room R (length ys)) (is-told : Is Told told (u ∷ [])) (n-fits : n < 2 ^ 64) (n-told : n ≤ 256) (n-in : n ≤ length ys) where
   -- the borrow at the list l
   abbrev x : List Diagnostic → RefT (List Diagnostic)
@@ -120,13 +124,16 @@ module _ {M : Type 1} (𝓤 : URA M) (H : Heap 𝓤) (A : Atoms 𝓤) (W : Given
   long : (k : ℕ) → k ≤ n → length (z k) ≡ length ys
   long k le = upto-length told ys k (le-trans le told-has) (le-trans le n-in)
 
-  exits : (k : ℕ) → k ≤ n → k ≡ n → ent 𝓤 (⋆ 𝓤 H A (‵ (fobs γ (codedHoleys R .code (heres R (z k)))) ∷ ‵ (fbor κ (Held R (length (z k)) b o γ)) ∷ ‵ (flft κ q) ∷ [])) (Post vunit)
+  exits : (k : ℕ) → k ≤ n → k ≡ n →
+      ent 𝓤 (⋆ 𝓤 H A (‵ (fobs γ (codedHoleys R .code (heres R (z k)))) ∷ ‵ (fbor κ (Held R (length (z k)) b o γ)) ∷ ‵ (flft κ q) ∷ [])) (Post vunit)
   exits k le e =
       qed W (‵ (fobs γ (codedHoleys R .code (heres R (z k)))) ∷ ‵ (fbor κ (Held R (length (z k)) b o γ)) ∷ ‵ (flft κ q) ∷ []) ∵
-      suffices ! _ (ends-at 𝓤 H A append.ended stayed (append.clauses 𝓤 H A mem run) W bound vunit tt (z k, (tt, (tt, tt))) (long k le, (tt, (tt, tt)))) $ says ! (ap z e) $
+      suffices ! _ (ends-at 𝓤 H A append.ended stayed (append.clauses 𝓤 H A mem run) W bound vunit tt (z k, (tt, (tt, tt))) (long k le, (tt, (tt, tt)))) $
+      says ! (ap z e) $
       nothing ! $ move ! (3 ∷ 0 ∷ []) $ join ! $ frame ! $
       -- [obs; the borrow]: with the fact on the machine value it is what the slice owns
-      fjoin ! $ pureI ! (at-slice R (x (z k)) (s ∷ [])) (tt, (tt, tt)) (ap (λ (m : ℕ). sliceVal (b, o) m ∷ []) (sym (long k le)), subst (Room R) (sym (long k le)) room) $ fjoin ! $
+      fjoin ! $ pureI ! (at-slice R (x (z k)) (s ∷ [])) (tt, (tt, tt))
+      (ap (λ (m : ℕ). sliceVal (b, o) m ∷ []) (sym (long k le)), subst (Room R) (sym (long k le)) room) $ fjoin ! $
       nothing ! $ nothing ! $ fjoin ! $ nothing ! $ fjoin ! $ move ! (1 ∷ 0 ∷ []) $ fjoin ! $
       feqI ! (List Val) (vunit ∷ []) (vunit ∷ []) refl $ move ! (1 ∷ 0 ∷ []) $ done !
 
@@ -186,23 +193,32 @@ module _ {M : Type 1} (𝓤 : URA M) (H : Heap 𝓤) (A : Atoms 𝓤) (W : Given
           rewrite ! 9 (λ (y : Bool). ‵ (fat fullShare tyBool l₅ 0 (vbool y))) e refl $ stays ! (load ! (from ! (stop !)) (look ! 9 refl)) $
           use0 W (raw (Nth 𝓤 H A mem run .pre (to-nth (k .0)))) (goes-nth (k .0) (lt-of-lt-of-le less n-told) (fits k)) $
           -- [what `nth` asks; obs; the borrow; the token; _8; …; _7; …; _6; …; _5; …; _4; …; _3; …; _2; …; _1; …; room for _0; …]
-          calls-at ! (fmOf 𝓤 H (W .laws) 𝓣) (Nth 𝓤 H A mem run) known (to-nth (k .0)) (and-then ! (load ! (from ! (stop !)) (look ! 16 refl)) (and-then ! (load ! (from ! (stop !)) (look ! 12 refl)) (no-more !))) (λ v.
+          calls-at ! (fmOf 𝓤 H (W .laws) 𝓣) (Nth 𝓤 H A mem run) known (to-nth (k .0))
+          (and-then ! (load ! (from ! (stop !)) (look ! 16 refl)) (and-then ! (load ! (from ! (stop !)) (look ! 12 refl)) (no-more !))) (λ v.
           use1 W (later (some (λ (r : Diagnostic). (‵ ftrue ⊛ ‵ (R .own r (v ∷ []))) ⊛ raw (ensured 𝓤 H A nth.ended (nth.clauses 𝓤 H A mem run) tt (told, (k .0, tt)) tt r)))) (id⊢ 𝓤 _) $ await ! tt $ pick ! (λ r.
-          split ! $ move ! (1 ∷ []) $ use1 W (raw (fact 𝓤 (r ≡ getD told (k .0) noDiagnostic))) (nth-of 𝓤 H A mem run told (k .0) r) $ heard ! (r ≡ getD told (k .0) noDiagnostic) (λ is.
+          split ! $ move ! (1 ∷ []) $ use1 W (raw (fact 𝓤 (r ≡ getD told (k .0) noDiagnostic))) (nth-of 𝓤 H A mem run told (k .0) r) $
+          heard ! (r ≡ getD told (k .0) noDiagnostic) (λ is.
           split ! $ drop ! $ facts ! R (Is R) (shows 𝓤 H A R) r (v ∷ []) (λ are.
           -- [obs; the borrow; the token; _8; …; _7; …; _6; …; _5; …; _4; …; _3; …; _2; …; _1; …; room for _0; …]
           land ! (from ! (stop !)) (init ! 7 refl (LL.lawful T.the-type T′.the-laws 𝓤 H A W .typed r _ are .0)) $
           assigns ! (bin ! (load ! (from ! (stop !)) (look ! 11 refl)) (lit ! tt) scaled) (from ! (stop !)) (init ! 5 refl (tt, scaled)) $
-          assigns ! (bin ! (load ! (from ! (fld ! refl (stop !))) (look-in ! 17 (sub ! 0 refl (whole !)))) (load ! (from ! (stop !)) (look ! 5 refl)) tt) (from ! (stop !)) (init ! 3 refl (tt, tt)) $
+          assigns ! (bin ! (load ! (from ! (fld ! refl (stop !))) (look-in ! 17 (sub ! 0 refl (whole !)))) (load ! (from ! (stop !)) (look ! 5 refl)) tt)
+          (from ! (stop !)) (init ! 3 refl (tt, tt)) $
           rewrite ! 3 (λ (p : ℕ). ‵ (fat fullShare tyPtr l₈ 0 (vptr b p))) (sym (place-is 16 o (k .0))) refl $
-          opens-slice ! tt R (z (k .0)) b o $ elem-out ! R (Is R) (shows 𝓤 H A R) (LL.vals T.the-type T′.the-laws) (LL.tells T.the-type T′.the-laws) fullShare (z (k .0)) (k .0) noDiagnostic b o within (λ _.
+          opens-slice ! tt R (z (k .0)) b o $
+          elem-out ! R (Is R) (shows 𝓤 H A R) (LL.vals T.the-type T′.the-laws) (LL.tells T.the-type T′.the-laws) fullShare (z (k .0))
+          (k .0) noDiagnostic b o within (λ _.
           -- [element k; what it owns; the others; the open borrow; obs; auth; _8; …; _7; …; _6; …; _5; …; _4; …; _3; …; _2; …; _1; …; room for _0; …]
-          assigns ! (of-opd ! (load ! (from ! (stop !)) (look ! 10 refl))) (from ! (hop ! (look ! 6 refl) (stop !))) (store-raw ! 0 refl (LL.lawful T.the-type T′.the-laws 𝓤 H A W .typed r _ are .0)) $
-          move ! (1 ∷ []) $ drop ! $ owned ! R (Is R) (LL.makes T.the-type T′.the-plain 𝓤 H A) r (v ∷ []) are $ move ! (1 ∷ 0 ∷ []) $ elem-put ! R fullShare (z (k .0)) (k .0) r (v ∷ []) b o within $
-          rewrite ! 0 (λ (l : List Diagnostic). ‵ (row R fullShare l b o)) (ap (set (z (k .0)) (k .0)) is ∙ upto-next told ys (k .0) noDiagnostic (lt-of-lt-of-le less told-has) (lt-of-lt-of-le less n-in)) refl $
+          assigns ! (of-opd ! (load ! (from ! (stop !)) (look ! 10 refl))) (from ! (hop ! (look ! 6 refl) (stop !)))
+          (store-raw ! 0 refl (LL.lawful T.the-type T′.the-laws 𝓤 H A W .typed r _ are .0)) $
+          move ! (1 ∷ []) $ drop ! $ owned ! R (Is R) (LL.makes T.the-type T′.the-plain 𝓤 H A) r (v ∷ []) are $ move ! (1 ∷ 0 ∷ []) $
+          elem-put ! R fullShare (z (k .0)) (k .0) r (v ∷ []) b o within $
+          rewrite ! 0 (λ (l : List Diagnostic). ‵ (row R fullShare l b o))
+          (ap (set (z (k .0)) (k .0)) is ∙ upto-next told ys (k .0) noDiagnostic (lt-of-lt-of-le less told-has) (lt-of-lt-of-le less n-in)) refl $
           closes-slice ! tt R (z (k .0)) (z (k .0 + 1)) (long (k .0 + 1) (next .1) ∙ sym (long (k .0) (k .1))) b o $
           -- [obs; the borrow; the token; _8; …; _7; …; _6; …; _5; …; _4; …; _3; …; _2; …; _1; …; room for _0; …]
-          assigns-last ! (bin ! (load ! (from ! (stop !)) (look ! 11 refl)) (lit ! tt) (record { fits = fits next })) (from ! (stop !)) (store ! 11 refl (tt, record { fits = fits next })) $
+          assigns-last ! (bin ! (load ! (from ! (stop !)) (look ! 11 refl)) (lit ! tt) (record { fits = fits next })) (from ! (stop !))
+          (store ! 11 refl (tt, record { fits = fits next })) $
           forget ! 3 refl $ forget ! 5 refl $ forget ! 7 refl $ forget ! 9 refl $ again ! Nearer At k next (add-one-dec n (k .0) less))))))
         where
           less : k .0 < n
@@ -225,29 +241,36 @@ module _ {M : Type 1} (𝓤 : URA M) (H : Heap 𝓤) (A : Atoms 𝓤) (W : Given
           exec ! C Λ En text.t-3 (atRet En Post) $
           assigns ! (of-opd ! (unit-lit !)) (from ! (stop !)) (init ! 19 refl (tt, tt)) $
           returns ! (look ! 19 refl) $ forget ! 9 refl $ forget ! 11 refl $ forget ! 13 refl $ forget ! 15 refl $ forget ! 17 refl $ forget ! 19 refl $
-          move ! (19 ∷ 20 ∷ []) $ free1 ! $ move ! (17 ∷ 18 ∷ []) $ free1 ! $ move ! (15 ∷ 16 ∷ []) $ free1 ! $ move ! (13 ∷ 14 ∷ []) $ free1 ! $ move ! (11 ∷ 12 ∷ []) $ free1 ! $
+          move ! (19 ∷ 20 ∷ []) $ free1 ! $ move ! (17 ∷ 18 ∷ []) $ free1 ! $ move ! (15 ∷ 16 ∷ []) $ free1 ! $ move ! (13 ∷ 14 ∷ []) $ free1 ! $
+          move ! (11 ∷ 12 ∷ []) $ free1 ! $
           move ! (9 ∷ 10 ∷ []) $ free1 ! $ move ! (7 ∷ 8 ∷ []) $ free1 ! $ move ! (5 ∷ 6 ∷ []) $ free1 ! $ move ! (3 ∷ 4 ∷ []) $ free1 ! $ free0 ! $
           by ! (exits (k .0) (k .1) (le-antisymm (k .1) (nltb→le (k .0) n (subst (λ (y : Bool). T (not y)) (sym e) tt))))
 
     walk : ent 𝓤 (onEntry 𝓤 H A append.signature (κ, tt) (q, tt) a vals) (WpFn 𝓤 H C Λ code.function (s ∷ u ∷ vint w64 n ∷ []) Post)
     walk =
         qed W ((‵ (flft κ q) ⊛ ‵ ftrue) ∷ ‵ (owns (MutSlice (named 0) κ R ∷ Told ∷ usize ∷ []) a vals) ∷ []) ∵ enter ! C Λ code.function (s ∷ u ∷ vint w64 n ∷ []) _ $
-        alloc1 ! (λ l₀. alloc1 ! (λ l₁. alloc1 ! (λ l₂. alloc1 ! (λ l₃. alloc1 ! (λ l₄. alloc1 ! (λ l₅. alloc1 ! (λ l₆. alloc1 ! (λ l₇. alloc1 ! (λ l₈. alloc0 ! $ params1 ! $
-        pass1 ! (init ! 14 refl (tt, (tt, (record { fits = room .0 }, tt)))) $ pass1 ! (init ! 12 refl (array-typed R (LL.lawful T.the-type T′.the-laws 𝓤 H A W .typed) 256 told _ is-told .0)) $ pass1 ! (init ! 10 refl (tt, record { fits = n-fits })) $ pass0 ! $
+        alloc1 ! (λ l₀. alloc1 ! (λ l₁. alloc1 ! (λ l₂. alloc1 ! (λ l₃. alloc1 ! (λ l₄. alloc1 ! (λ l₅. alloc1 ! (λ l₆. alloc1 ! (λ l₇. alloc1 ! (λ l₈. alloc0 ! $
+        params1 ! $
+        pass1 ! (init ! 14 refl (tt, (tt, (record { fits = room .0 }, tt)))) $
+        pass1 ! (init ! 12 refl (array-typed R (LL.lawful T.the-type T′.the-laws 𝓤 H A W .typed) 256 told _ is-told .0)) $
+        pass1 ! (init ! 10 refl (tt, record { fits = n-fits })) $ pass0 ! $
         -- [_8; …; _7; …; _6; …; _5; …; _4; …; _3; …; _2; …; _1; …; room for _0; …; the token; what the parameters own]
         move ! (19 ∷ []) $ fsplit ! $ fsplit ! $ move ! (1 ∷ []) $ fsplit ! $ move ! (22 ∷ []) $ split ! $
         keep ! (2 ∷ 3 ∷ 0 ∷ 6 ∷ 7 ∷ 8 ∷ 9 ∷ 10 ∷ 11 ∷ 12 ∷ 13 ∷ 14 ∷ 15 ∷ 16 ∷ 17 ∷ 18 ∷ 19 ∷ 20 ∷ 21 ∷ 22 ∷ 23 ∷ []) $
         -- [obs; the borrow; the token; _8; …; _0; …]
         assigns ! (of-opd ! (lit ! tt)) (from ! (stop !)) (init ! 11 refl (tt, record { fits = lit< tt })) $
-        first ! $ blocks ! $ loops ! 𝓣 Nearer Nearer-wf (At l₀ l₁ l₂ l₃ l₄ l₅ l₆ l₇ l₈) (λ k. turned l₀ l₁ l₂ l₃ l₄ l₅ l₆ l₇ l₈ k (ltb (k .0) n) refl) (0, zero-le))))))))))
+        first ! $ blocks ! $ loops ! 𝓣 Nearer Nearer-wf (At l₀ l₁ l₂ l₃ l₄ l₅ l₆ l₇ l₈) (λ k. turned l₀ l₁ l₂ l₃ l₄ l₅ l₆ l₇ l₈ k (ltb (k .0) n) refl)
+        (0, zero-le))))))))))
 
-module _ {M : Type 1} (𝓤 : URA M) (H : Heap 𝓤) (A : Atoms 𝓤) (W : Given 𝓤 H A) (mem : Memory → SProp 𝓤) (run : Routine → Fun 𝓤) (𝓣 : Tables 𝓤 H) (known : Triple 𝓤 (𝓣 .C #lent·nth) (Nth 𝓤 H A mem run)) where
+module _ {M : Type 1} (𝓤 : URA M) (H : Heap 𝓤) (A : Atoms 𝓤) (W : Given 𝓤 H A) (mem : Memory → SProp 𝓤) (run : Routine →
+    Fun 𝓤) (𝓣 : Tables 𝓤 H) (known : Triple 𝓤 (𝓣 .C #lent·nth) (Nth 𝓤 H A mem run)) where
   append-walks : Walks 𝓤 H A append.ended stayed (WpFn 𝓤 H (𝓣 .C) (𝓣 .Λ) code.function) (append.clauses 𝓤 H A mem run)
   append-walks = walked 𝓤 H A append.ended stayed (append.clauses 𝓤 H A mem run) (WpFn 𝓤 H (𝓣 .C) (𝓣 .Λ) code.function)
       (λ κs. (slice-vals, (array-vals (LL.vals T.the-type T′.the-laws), (uint-vals w64, tt))))
       (λ κs. (mut-slice-tells (named 0) (κs .0) R, (array-tells R (LL.vals T.the-type T′.the-laws) (LL.tells T.the-type T′.the-laws) 256, (uint-tells w64, tt))))
       (λ κs qs bounds a g are. needs 𝓤 ((a .1 .1 .0 ≤ 256) × (a .1 .1 .0 ≤ length (now (a .0)))) _ (λ given.
-      walk 𝓤 H A W mem run (κs .0) (qs .0) (a .0 .ptr .0) (a .0 .ptr .1) (a .0 .name) (a .0 .now) (a .1 .0) _ (a .1 .1 .0) (are .0 .0 .1) (are .1 .0) (are .1 .1 .0 .1) (given .0) (given .1) 𝓣 known))
+      walk 𝓤 H A W mem run (κs .0) (qs .0) (a .0 .ptr .0) (a .0 .ptr .1) (a .0 .name) (a .0 .now) (a .1 .0) _ (a .1 .1 .0) (are .0 .0 .1) (are .1 .0)
+      (are .1 .1 .0 .1) (given .0) (given .1) 𝓣 known))
 
   append-meets : Meets 𝓤 H A append.signature (WpFn 𝓤 H (𝓣 .C) (𝓣 .Λ) code.function) (append.spec 𝓤 H A mem run)
   append-meets =

@@ -1,4 +1,6 @@
--- `lent::lower_lent` meets its contract: a walk of its MIR, by hand. The counters' borrow is opened, the step is called on the counters' value, the step's counters are stored and the borrow is closed; `results` goes to the step and `diagnostics` to the append for good. What the callees ensure is made the promise by `Entering.antt`'s `lent-of`.
+-- `lent::lower_lent` meets its contract: a walk of its MIR, by hand. The counters' borrow is opened, the step is called on the counters' value, the
+-- step's counters are stored and the borrow is closed; `results` goes to the step and `diagnostics` to the append for good. What the callees ensure
+-- is made the promise by `Entering.antt`'s `lent-of`.
 -- Assumes nothing.
 use mathlib.Core.Path.{_≡_, refl, ap}
 use Prim.Native.Nat.{ℕ, _≤_}
@@ -109,7 +111,8 @@ module _ {M : Type 1} (𝓤 : URA M) (H : Heap 𝓤) (A : Atoms 𝓤) (at-mem : 
   abbrev Append : Contract 𝓤
   Append = tripleOf 𝓤 H A append.signature (append.spec 𝓤 H A at-mem run)
 
-module _ {M : Type 1} (𝓤 : URA M) (H : Heap 𝓤) (A : Atoms 𝓤) (W : Given 𝓤 H A) (at-mem : Memory → SProp 𝓤) (run : Routine → Fun 𝓤) (κ₀ κ₁ κ₂ κ₃ : Lft) (q₀ q₁ q₂ q₃ : Share) (x₀ : RefT LowerCtx) (x₁ x₂ : RefT (List ℕ)) (x₃ : RefT (List Diagnostic)) where
+module _ {M : Type 1} (𝓤 : URA M) (H : Heap 𝓤) (A : Atoms 𝓤) (W : Given 𝓤 H A) (at-mem : Memory → SProp 𝓤) (run : Routine →
+    Fun 𝓤) (κ₀ κ₁ κ₂ κ₃ : Lft) (q₀ q₁ q₂ q₃ : Share) (x₀ : RefT LowerCtx) (x₁ x₂ : RefT (List ℕ)) (x₃ : RefT (List Diagnostic)) where
   abbrev a : Arg
   a = (x₀, (x₁, (x₂, (x₃, tt))))
 
@@ -158,11 +161,13 @@ module _ {M : Type 1} (𝓤 : URA M) (H : Heap 𝓤) (A : Atoms 𝓤) (W : Given
   abbrev to-step : LowerStep 𝓤 H A at-mem run .Ghost
   to-step = (((κ₁, (κ₂, tt)), (q₁, (q₂, tt)), tt, step-arg, (ctx-val c ∷ [], (s₁ ∷ [], (s₂ ∷ [], (vint w64 (length (now x₃)) ∷ [], tt))))), tt)
 
-  goes-step : Is C.the-row c (ctx-val c ∷ []) → Room D.the-row (length (now x₃)) → ent 𝓤 (⋆ 𝓤 H A (‵ (flft κ₁ q₁) ∷ ‵ (flft κ₂ q₂) ∷ ‵ Book ∷ ‵ Results ∷ [])) (LowerStep 𝓤 H A at-mem run .pre to-step)
+  goes-step : Is C.the-row c (ctx-val c ∷ []) → Room D.the-row (length (now x₃)) →
+      ent 𝓤 (⋆ 𝓤 H A (‵ (flft κ₁ q₁) ∷ ‵ (flft κ₂ q₂) ∷ ‵ Book ∷ ‵ Results ∷ [])) (LowerStep 𝓤 H A at-mem run .pre to-step)
   goes-step g room =
       qed W (‵ (flft κ₁ q₁) ∷ ‵ (flft κ₂ q₂) ∷ ‵ Book ∷ ‵ Results ∷ []) ∵
       -- the parameters, from the last to the first
-      nothing ! $ owned ! usize (Is usize) (uint-makes 𝓤 H A W w64) (length (now x₃)) _ (refl, room .0) $ fjoin ! $ move ! (4 ∷ 0 ∷ []) $ fjoin ! $ move ! (3 ∷ 0 ∷ []) $ fjoin ! $
+      nothing ! $ owned ! usize (Is usize) (uint-makes 𝓤 H A W w64) (length (now x₃)) _ (refl, room .0) $ fjoin ! $ move ! (4 ∷ 0 ∷ []) $ fjoin ! $
+      move ! (3 ∷ 0 ∷ []) $ fjoin ! $
       owned ! C.the-row (Is C.the-row) (LL.makes C.the-type C′.the-plain 𝓤 H A) c _ g $ fjoin ! $
       -- [the parameters; the tokens]
       nothing ! $ move ! (3 ∷ 0 ∷ []) $ join ! $ move ! (2 ∷ 0 ∷ []) $ join ! $ move ! (0 ∷ 1 ∷ []) $ join ! $ frame ! $ done !
@@ -177,13 +182,16 @@ module _ {M : Type 1} (𝓤 : URA M) (H : Heap 𝓤) (A : Atoms 𝓤) (W : Given
   abbrev to-append : Step → Append 𝓤 H A at-mem run .Ghost
   to-append r = (((κ₃, tt), (q₃, tt), tt, append-arg r, (s₃ ∷ [], (told-val r ∷ [], (vint w64 (r .count) ∷ [], tt)))), tt)
 
-  goes-append : (r : Step) (v : Val) → Is S.the-row r (v ∷ []) → (r .count ≤ 256) × (r .count ≤ length (now x₃)) → ent 𝓤 (sep 𝓤 (A .lft κ₃ q₃) (sem 𝓤 H A Diagnostics)) (Append 𝓤 H A at-mem run .pre (to-append r))
+  goes-append : (r : Step) (v : Val) → Is S.the-row r (v ∷ []) → (r .count ≤ 256) × (r .count ≤ length (now x₃)) →
+      ent 𝓤 (sep 𝓤 (A .lft κ₃ q₃) (sem 𝓤 H A Diagnostics)) (Append 𝓤 H A at-mem run .pre (to-append r))
   goes-append r v is few =
       qed W (‵ (flft κ₃ q₃) ∷ ‵ Diagnostics ∷ []) ∵ says ! few $ nothing ! $ move ! (1 ∷ 0 ∷ []) $ join ! $ frame ! $
       nothing ! $ owned ! usize (Is usize) (uint-makes 𝓤 H A W w64) (r .count) _ (count-is r v is) $ fjoin ! $
-      owned ! (Array D.the-row 256) (Is (Array D.the-row 256)) (array-makes 𝓤 H A W D.the-row (LL.makes D.the-type D′.the-plain 𝓤 H A) 256) (r .told) _ (told-is r v is) $ fjoin ! $ move ! (1 ∷ 0 ∷ []) $ fjoin ! $ done !
+      owned ! (Array D.the-row 256) (Is (Array D.the-row 256)) (array-makes 𝓤 H A W D.the-row (LL.makes D.the-type D′.the-plain 𝓤 H A) 256)
+      (r .told) _ (told-is r v is) $ fjoin ! $ move ! (1 ∷ 0 ∷ []) $ fjoin ! $ done !
 
-  exits : (r : Step) (v : Val) (zs : List ℕ) (ds : List Diagnostic) → Is S.the-row r (v ∷ []) → LoweredLent c (now x₁) (now x₂) (now x₃) (r .reply) (r .ctx) zs ds → length zs ≡ length (now x₂) → length ds ≡ length (now x₃)
+  exits : (r : Step) (v : Val) (zs : List ℕ) (ds : List Diagnostic) → Is S.the-row r (v ∷ []) →
+      LoweredLent c (now x₁) (now x₂) (now x₃) (r .reply) (r .ctx) zs ds → length zs ≡ length (now x₂) → length ds ≡ length (now x₃)
       → ent 𝓤 (⋆ 𝓤 H A (‵ (fobs (name x₀) (C.the-row .coded .code (r .ctx))) ∷ ‵ (fbor κ₀ (Body (mem C.the-row) b o (name x₀))) ∷ ‵ (flft κ₀ q₀) ∷ ‵ (flft κ₃ q₃) ∷ ‵ (finally D.the-row (name x₃) ds) ∷ ‵ (flft κ₂ q₂) ∷ ‵ (flft κ₁ q₁) ∷ ‵ (finally u8 (name x₂) zs) ∷ ‵ Book ∷ []))
       (Post (reply-val r))
   exits r v zs ds is e l m =
@@ -192,12 +200,15 @@ module _ {M : Type 1} (𝓤 : URA M) (H : Heap 𝓤) (A : Atoms 𝓤) (W : Given
       -- the tokens
       nothing ! $ move ! (4 ∷ 0 ∷ []) $ join ! $ move ! (5 ∷ 0 ∷ []) $ join ! $ move ! (5 ∷ 0 ∷ []) $ join ! $ move ! (3 ∷ 0 ∷ []) $ join ! $ frame ! $
       -- [obs; the borrow; the last diagnostics; the last results; the book]
-      feqI ! (List Val) (vptr b o ∷ []) (vptr b o ∷ []) refl $ fjoin3 ! $ nothing ! $ move ! (2 ∷ 0 ∷ []) $ fjoin ! $ move ! (2 ∷ 0 ∷ []) $ fjoin ! $ move ! (2 ∷ 0 ∷ []) $ fjoin ! $ move ! (1 ∷ 0 ∷ []) $ fjoin ! $ frame ! $
+      feqI ! (List Val) (vptr b o ∷ []) (vptr b o ∷ []) refl $ fjoin3 ! $ nothing ! $ move ! (2 ∷ 0 ∷ []) $ fjoin ! $ move ! (2 ∷ 0 ∷ []) $ fjoin ! $
+      move ! (2 ∷ 0 ∷ []) $ fjoin ! $ move ! (1 ∷ 0 ∷ []) $ fjoin ! $ frame ! $
       owned ! Y.the-row (Is Y.the-row) (EL.makes Y.the-type Y′.the-plain 𝓤 H A) (r .reply) _ (reply-is r v is) $ done !
 
-  module _ (C° : Calls 𝓤 H) (Λ : Loops 𝓤 H) (fm : FmC 𝓤 H (W .laws) C°) (known-step : Triple 𝓤 (C° #lent·step·lower-step) (LowerStep 𝓤 H A at-mem run)) (known-append : Triple 𝓤 (C° #lent·append) (Append 𝓤 H A at-mem run)) where
+  module _ (C° : Calls 𝓤 H) (Λ : Loops 𝓤 H) (fm : FmC 𝓤 H (W .laws) C°) (known-step : Triple 𝓤 (C° #lent·step·lower-step) (LowerStep 𝓤 H A at-mem run))
+      (known-append : Triple 𝓤 (C° #lent·append) (Append 𝓤 H A at-mem run)) where
     walk : Room u8 (length (now x₁)) → Room u8 (length (now x₂)) → Room D.the-row (length (now x₃))
-        → ent 𝓤 (onEntry 𝓤 H A lower-lent.signature (κ₀, (κ₁, (κ₂, (κ₃, tt)))) (q₀, (q₁, (q₂, (q₃, tt)))) a vals) (WpFn 𝓤 H C° Λ code.function (vptr b o ∷ s₁ ∷ s₂ ∷ s₃ ∷ []) Post)
+        → ent 𝓤 (onEntry 𝓤 H A lower-lent.signature (κ₀, (κ₁, (κ₂, (κ₃, tt)))) (q₀, (q₁, (q₂, (q₃, tt)))) a vals)
+        (WpFn 𝓤 H C° Λ code.function (vptr b o ∷ s₁ ∷ s₂ ∷ s₃ ∷ []) Post)
     walk room₁ room₂ room₃ =
         qed W ((‵ (flft κ₀ q₀) ⊛ ‵ (flft κ₁ q₁) ⊛ ‵ (flft κ₂ q₂) ⊛ ‵ (flft κ₃ q₃) ⊛ ‵ ftrue) ∷ ‵ (owns (MutRef (named 0) κ₀ C.the-row ∷ ShrSlice (named 1) κ₁ u8 ∷ MutSlice (named 2) κ₂ u8 ∷ MutSlice (named 3) κ₃ D.the-row ∷ []) a vals) ∷ []) ∵
         -- the tokens and the parameters are taken apart
@@ -207,15 +218,19 @@ module _ {M : Type 1} (𝓤 : URA M) (H : Heap 𝓤) (A : Atoms 𝓤) (W : Given
         -- [obs; the borrow; its token; diagnostics; results; book; the tokens of diagnostics, results and book]
         enter ! C° Λ code.function (vptr b o ∷ s₁ ∷ s₂ ∷ s₃ ∷ []) _ $
         alloc1 ! (λ l₀. alloc1 ! (λ l₁. alloc1 ! (λ l₂. alloc1 ! (λ l₃. alloc1 ! (λ l₄. alloc1 ! (λ l₅. alloc1 ! (λ l₆. alloc1 ! (λ l₇. alloc1 ! (λ l₈. alloc1 ! (λ l₉. alloc1 ! (λ l₁₀. alloc1 ! (λ l₁₁. alloc1 ! (λ l₁₂. alloc0 ! $ params1 ! $
-        pass1 ! (init ! 22 refl (tt, tt)) $ pass1 ! (init ! 20 refl (tt, (tt, (record { fits = room₁ .0 }, tt)))) $ pass1 ! (init ! 18 refl (tt, (tt, (record { fits = room₂ .0 }, tt)))) $ pass1 ! (init ! 16 refl (tt, (tt, (record { fits = room₃ .0 }, tt)))) $ pass0 ! $
+        pass1 ! (init ! 22 refl (tt, tt)) $ pass1 ! (init ! 20 refl (tt, (tt, (record { fits = room₁ .0 }, tt)))) $
+        pass1 ! (init ! 18 refl (tt, (tt, (record { fits = room₂ .0 }, tt)))) $ pass1 ! (init ! 16 refl (tt, (tt, (record { fits = room₃ .0 }, tt)))) $ pass0 ! $
         -- the borrow of the counters is opened
-        move ! (26 ∷ 27 ∷ 28 ∷ []) $ opens ! tt C.the-row {h = c} b o (λ vs. spelt ! C.the-row (Is C.the-row) (shows 𝓤 H A C.the-row) (LL.vals C.the-type C′.the-laws) (LL.tells C.the-type C′.the-laws) fullShare c vs b o $
+        move ! (26 ∷ 27 ∷ 28 ∷ []) $
+        opens ! tt C.the-row {h = c} b o (λ vs. spelt ! C.the-row (Is C.the-row) (shows 𝓤 H A C.the-row) (LL.vals C.the-type C′.the-laws) (LL.tells C.the-type C′.the-laws) fullShare c vs b o $
         move ! (1 ∷ []) $ peeks ! C.the-row (Is C.the-row) (shows 𝓤 H A C.the-row) c (ctx-val c ∷ []) (λ g. drop ! $
         -- [the counters' cell; the open borrow; obs; auth; _12; …; _1; …; room for _0; …; diagnostics; results; book; the tokens of diagnostics, results and book]
-        assigns ! (of-opd ! (load ! (from ! (hop ! (look ! 26 refl) (stop !))) (look-raw ! 0 refl))) (from ! (stop !)) (init ! 16 refl (LL.lawful C.the-type C′.the-laws 𝓤 H A W .typed c _ g .0)) $
+        assigns ! (of-opd ! (load ! (from ! (hop ! (look ! 26 refl) (stop !))) (look-raw ! 0 refl))) (from ! (stop !))
+        (init ! 16 refl (LL.lawful C.the-type C′.the-laws 𝓤 H A W .typed c _ g .0)) $
         assigns ! (addr ! (from ! (fld ! refl (hop ! (look-in ! 22 (sub ! 0 refl (whole !))) (stop !))))) (from ! (stop !)) (init ! 14 refl (tt, tt)) $
         assigns ! (agg ! (and-then ! (load ! (from ! (stop !)) (look ! 14 refl)) (and-then ! (load ! (from ! (fld ! refl (stop !))) (look-in ! 22 (sub ! 1 refl (whole !)))) (no-more !)))) (from ! (stop !)) (init ! 12 refl (tt, (tt, (record { fits = room₂ .0 }, tt)))) $
-        assigns ! (of-opd ! (load ! (from ! (fld ! refl (stop !))) (look-in ! 20 (sub ! 1 refl (whole !))))) (from ! (stop !)) (init ! 10 refl (tt, record { fits = room₃ .0 })) $
+        assigns ! (of-opd ! (load ! (from ! (fld ! refl (stop !))) (look-in ! 20 (sub ! 1 refl (whole !))))) (from ! (stop !))
+        (init ! 10 refl (tt, record { fits = room₃ .0 })) $
         -- what the book owns is had twice, and the step is called
         move ! (32 ∷ []) $ use1 W (‵ Book ⊛ ‵ Book) (shr-slice-copy 𝓤 H A W (named 1) κ₁ u8 .twice x₁ (s₁ ∷ [])) $ split ! $
         move ! (36 ∷ 35 ∷ 0 ∷ 33 ∷ []) $ group ! 4 $ use1 W (raw (LowerStep 𝓤 H A at-mem run .pre to-step)) (goes-step g room₃) $
@@ -223,35 +238,50 @@ module _ {M : Type 1} (𝓤 : URA M) (H : Heap 𝓤) (A : Atoms 𝓤) (W : Given
         calls-at ! fm (LowerStep 𝓤 H A at-mem run) known-step to-step (and-then ! (load ! (from ! (stop !)) (look ! 18 refl)) (and-then ! (load ! (from ! (stop !)) (look ! 26 refl)) (and-then ! (load ! (from ! (stop !)) (look ! 14 refl)) (and-then ! (load ! (from ! (stop !)) (look ! 12 refl)) (no-more !))))) (λ v.
         use1 W (later (some (λ (r : Step). ((‵ (flft κ₁ q₁) ⊛ ‵ (flft κ₂ q₂) ⊛ ‵ ftrue) ⊛ ‵ (S.the-row .own r (v ∷ []))) ⊛ raw (ensured 𝓤 H A lower-step.ended (lower-step.clauses 𝓤 H A at-mem run) (κ₁, (κ₂, tt)) step-arg tt r)))) (id⊢ 𝓤 _) $ await ! tt $ pick ! (λ r.
         -- what the step ensures, at some last list of results
-        split ! $ move ! (1 ∷ []) $ use1 W (some (λ (zs : Unit {0} × (Unit {0} × (List ℕ × (Unit {0} × Unit {0})))). ‵ (lasts lower-step.ended (κ₁, (κ₂, tt)) step-arg zs) ⊛ raw (fact 𝓤 (Stepped c (now x₁) (now x₂) (length (now x₃)) r (zs .1 .1 .0))))) (id⊢ 𝓤 _) $ pick ! (λ zs.
-        split ! $ move ! (1 ∷ []) $ heard ! (Stepped c (now x₁) (now x₂) (length (now x₃)) r (zs .1 .1 .0)) (λ s. fsplit ! $ drop ! $ fsplit ! $ drop ! $ fsplit ! $ fsplit ! $ move ! (1 ∷ []) $ feqL ! (λ l. move ! (1 ∷ []) $ drop ! $
-        move ! (1 ∷ []) $ split ! $ move ! (1 ∷ []) $ peeks ! S.the-row (Is S.the-row) (shows 𝓤 H A S.the-row) r (v ∷ []) (λ is. drop ! $ split ! $ move ! (1 ∷ []) $ split ! $ move ! (1 ∷ []) $ drop ! $
+        split ! $ move ! (1 ∷ []) $
+        use1 W (some (λ (zs : Unit {0} × (Unit {0} × (List ℕ × (Unit {0} × Unit {0})))). ‵ (lasts lower-step.ended (κ₁, (κ₂, tt)) step-arg zs) ⊛ raw (fact 𝓤 (Stepped c (now x₁) (now x₂) (length (now x₃)) r (zs .1 .1 .0))))) (id⊢ 𝓤 _) $ pick ! (λ zs.
+        split ! $ move ! (1 ∷ []) $ heard ! (Stepped c (now x₁) (now x₂) (length (now x₃)) r (zs .1 .1 .0)) (λ s. fsplit ! $ drop ! $ fsplit ! $ drop ! $
+        fsplit ! $ fsplit ! $ move ! (1 ∷ []) $ feqL ! (λ l. move ! (1 ∷ []) $ drop ! $
+        move ! (1 ∷ []) $ split ! $ move ! (1 ∷ []) $ peeks ! S.the-row (Is S.the-row) (shows 𝓤 H A S.the-row) r (v ∷ []) (λ is. drop ! $ split ! $
+        move ! (1 ∷ []) $ split ! $ move ! (1 ∷ []) $ drop ! $
         -- [the tokens of results and book; the last results; book; the counters' cell; the open borrow; obs; auth; _12; …; _1; …; room for _0; …; diagnostics; its token]
-        land ! (from ! (stop !)) (init ! 22 refl (LL.lawful S.the-type S′.the-laws 𝓤 H A W .typed r _ is .0)) $ rewrite ! 22 (λ (u : Val). ‵ (fat fullShare S′.mir l₅ 0 u)) (ap only (LL.tells S.the-type S′.the-laws r (v ∷ []) is)) refl $
+        land ! (from ! (stop !)) (init ! 22 refl (LL.lawful S.the-type S′.the-laws 𝓤 H A W .typed r _ is .0)) $
+        rewrite ! 22 (λ (u : Val). ‵ (fat fullShare S′.mir l₅ 0 u)) (ap only (LL.tells S.the-type S′.the-laws r (v ∷ []) is)) refl $
         -- the step's counters are stored, and the append's slice is made
-        assigns ! (of-opd ! (load ! (from ! (fld ! refl (stop !))) (look-in ! 22 (sub ! 0 refl (whole !))))) (from ! (hop ! (look ! 30 refl) (stop !))) (store-raw ! 4 refl (LL.lawful C.the-type C′.the-laws 𝓤 H A W .typed (r .ctx) _ (ctx-is r v is) .0)) $
+        assigns ! (of-opd ! (load ! (from ! (fld ! refl (stop !))) (look-in ! 22 (sub ! 0 refl (whole !))))) (from ! (hop ! (look ! 30 refl) (stop !)))
+        (store-raw ! 4 refl (LL.lawful C.the-type C′.the-laws 𝓤 H A W .typed (r .ctx) _ (ctx-is r v is) .0)) $
         assigns ! (addr ! (from ! (fld ! refl (hop ! (look-in ! 24 (sub ! 0 refl (whole !))) (stop !))))) (from ! (stop !)) (init ! 10 refl (tt, tt)) $
         assigns ! (agg ! (and-then ! (load ! (from ! (stop !)) (look ! 10 refl)) (and-then ! (load ! (from ! (fld ! refl (stop !))) (look-in ! 24 (sub ! 1 refl (whole !)))) (no-more !)))) (from ! (stop !)) (init ! 8 refl (tt, (tt, (record { fits = room₃ .0 }, tt)))) $
         move ! (35 ∷ 34 ∷ []) $ use2 W (raw (Append 𝓤 H A at-mem run .pre (to-append r))) (goes-append r v is (s .few, s .room-for)) $
         -- [what the append asks; the tokens of results and book; the last results; book; the counters' cell; the open borrow; obs; auth; _12; …; _1; …; room for _0; …]
-        calls-at ! fm (Append 𝓤 H A at-mem run) known-append (to-append r) (and-then ! (load ! (from ! (stop !)) (look ! 9 refl)) (and-then ! (load ! (from ! (fld ! refl (stop !))) (look-in ! 23 (sub ! 3 refl (whole !)))) (and-then ! (load ! (from ! (fld ! refl (stop !))) (look-in ! 23 (sub ! 2 refl (whole !)))) (no-more !)))) (λ w.
+        calls-at ! fm (Append 𝓤 H A at-mem run) known-append (to-append r)
+        (and-then ! (load ! (from ! (stop !)) (look ! 9 refl)) (and-then ! (load ! (from ! (fld ! refl (stop !))) (look-in ! 23 (sub ! 3 refl (whole !)))) (and-then ! (load ! (from ! (fld ! refl (stop !))) (look-in ! 23 (sub ! 2 refl (whole !)))) (no-more !)))) (λ w.
         use1 W (later (some (λ (n : Unit {0}). ((‵ (flft κ₃ q₃) ⊛ ‵ ftrue) ⊛ ‵ (unit .own n (w ∷ []))) ⊛ raw (ensured 𝓤 H A append.ended (append.clauses 𝓤 H A at-mem run) (κ₃, tt) (append-arg r) tt n)))) (id⊢ 𝓤 _) $ await ! tt $ pick ! (λ n.
         -- what the append ensures, at some last list of diagnostics
-        split ! $ move ! (1 ∷ []) $ use1 W (some (λ (ds : List Diagnostic × (Unit {0} × (Unit {0} × Unit {0}))). ‵ (lasts append.ended (κ₃, tt) (append-arg r) ds) ⊛ raw (fact 𝓤 (ds .0 ≡ take (r .count) (r .told) ++ dropN (r .count) (now x₃))))) (id⊢ 𝓤 _) $ pick ! (λ ds.
-        split ! $ move ! (1 ∷ []) $ heard ! (ds .0 ≡ take (r .count) (r .told) ++ dropN (r .count) (now x₃)) (λ e. fsplit ! $ fsplit ! $ move ! (1 ∷ []) $ feqL ! (λ m. move ! (1 ∷ []) $ drop ! $
+        split ! $ move ! (1 ∷ []) $
+        use1 W (some (λ (ds : List Diagnostic × (Unit {0} × (Unit {0} × Unit {0}))). ‵ (lasts append.ended (κ₃, tt) (append-arg r) ds) ⊛ raw (fact 𝓤 (ds .0 ≡ take (r .count) (r .told) ++ dropN (r .count) (now x₃))))) (id⊢ 𝓤 _) $ pick ! (λ ds.
+        split ! $ move ! (1 ∷ []) $ heard ! (ds .0 ≡ take (r .count) (r .told) ++ dropN (r .count) (now x₃)) (λ e. fsplit ! $ fsplit ! $ move ! (1 ∷ []) $
+        feqL ! (λ m. move ! (1 ∷ []) $ drop ! $
         move ! (1 ∷ []) $ split ! $ split ! $ move ! (1 ∷ []) $ drop ! $ move ! (1 ∷ []) $ peeks ! unit (Is unit) (shows 𝓤 H A unit) n (w ∷ []) (λ is-unit. drop ! $
         -- [the token of diagnostics; the last diagnostics; the tokens of results and book; the last results; book; the counters' cell; the open borrow; obs; auth; _12; …; _1; …; room for _0; …]
         land ! (from ! (stop !)) (init ! 14 refl (nothing-lawful 𝓤 H A W .typed n _ is-unit .0)) $
-        assigns ! (of-opd ! (load ! (from ! (fld ! refl (stop !))) (look-in ! 24 (sub ! 1 refl (whole !))))) (from ! (stop !)) (init ! 34 refl (EL.lawful Y.the-type Y′.the-laws 𝓤 H A W tt .typed (r .reply) _ (reply-is r v is) .0)) $
+        assigns ! (of-opd ! (load ! (from ! (fld ! refl (stop !))) (look-in ! 24 (sub ! 1 refl (whole !))))) (from ! (stop !))
+        (init ! 34 refl (EL.lawful Y.the-type Y′.the-laws 𝓤 H A W tt .typed (r .reply) _ (reply-is r v is) .0)) $
         -- the borrow is closed at the step's counters
-        move ! (6 ∷ []) $ owned ! C.the-row (Is C.the-row) (LL.makes C.the-type C′.the-plain 𝓤 H A) (r .ctx) _ (ctx-is r v is) $ move ! (1 ∷ 0 ∷ 8 ∷ 9 ∷ 10 ∷ []) $ closes ! tt C.the-row (r .ctx) (ctx-val (r .ctx) ∷ []) b o $
+        move ! (6 ∷ []) $ owned ! C.the-row (Is C.the-row) (LL.makes C.the-type C′.the-plain 𝓤 H A) (r .ctx) _ (ctx-is r v is) $ move ! (1 ∷ 0 ∷ 8 ∷ 9 ∷ 10 ∷ []) $
+        closes ! tt C.the-row (r .ctx) (ctx-val (r .ctx) ∷ []) b o $
         -- [obs; the borrow; its token; the token of diagnostics; the last diagnostics; the tokens of results and book; the last results; book; _12; …; _1; …; _0; …]
-        returns ! (look ! 33 refl) $ forget ! 9 refl $ forget ! 11 refl $ forget ! 13 refl $ forget ! 15 refl $ forget ! 17 refl $ forget ! 19 refl $ forget ! 21 refl $ forget ! 23 refl $ forget ! 25 refl $ forget ! 27 refl $ forget ! 29 refl $ forget ! 31 refl $ forget ! 33 refl $
-        move ! (33 ∷ 34 ∷ []) $ free1 ! $ move ! (31 ∷ 32 ∷ []) $ free1 ! $ move ! (29 ∷ 30 ∷ []) $ free1 ! $ move ! (27 ∷ 28 ∷ []) $ free1 ! $ move ! (25 ∷ 26 ∷ []) $ free1 ! $ move ! (23 ∷ 24 ∷ []) $ free1 ! $ move ! (21 ∷ 22 ∷ []) $ free1 ! $ move ! (19 ∷ 20 ∷ []) $ free1 ! $ move ! (17 ∷ 18 ∷ []) $ free1 ! $ move ! (15 ∷ 16 ∷ []) $ free1 ! $ move ! (13 ∷ 14 ∷ []) $ free1 ! $ move ! (11 ∷ 12 ∷ []) $ free1 ! $ move ! (9 ∷ 10 ∷ []) $ free1 ! $ free0 ! $
+        returns ! (look ! 33 refl) $ forget ! 9 refl $ forget ! 11 refl $ forget ! 13 refl $ forget ! 15 refl $ forget ! 17 refl $ forget ! 19 refl $
+        forget ! 21 refl $ forget ! 23 refl $ forget ! 25 refl $ forget ! 27 refl $ forget ! 29 refl $ forget ! 31 refl $ forget ! 33 refl $
+        move ! (33 ∷ 34 ∷ []) $ free1 ! $ move ! (31 ∷ 32 ∷ []) $ free1 ! $ move ! (29 ∷ 30 ∷ []) $ free1 ! $ move ! (27 ∷ 28 ∷ []) $ free1 ! $
+        move ! (25 ∷ 26 ∷ []) $ free1 ! $ move ! (23 ∷ 24 ∷ []) $ free1 ! $ move ! (21 ∷ 22 ∷ []) $ free1 ! $ move ! (19 ∷ 20 ∷ []) $ free1 ! $
+        move ! (17 ∷ 18 ∷ []) $ free1 ! $ move ! (15 ∷ 16 ∷ []) $ free1 ! $ move ! (13 ∷ 14 ∷ []) $ free1 ! $ move ! (11 ∷ 12 ∷ []) $ free1 ! $
+        move ! (9 ∷ 10 ∷ []) $ free1 ! $ free0 ! $
         by ! (exits r v (zs .1 .1 .0) (ds .0) is (lent-of c (now x₁) (now x₂) (now x₃) r (zs .1 .1 .0) (ds .0) s e) l m))))))))))))))))))))))))))))
 
 module _ {M : Type 1} (𝓤 : URA M) (H : Heap 𝓤) (A : Atoms 𝓤) (W : Given 𝓤 H A) (at-mem : Memory → SProp 𝓤) (run : Routine → Fun 𝓤) where
-  lower-lent-walks : (C° : Calls 𝓤 H) (Λ : Loops 𝓤 H) → FmC 𝓤 H (W .laws) C° → Triple 𝓤 (C° #lent·step·lower-step) (LowerStep 𝓤 H A at-mem run) → Triple 𝓤 (C° #lent·append) (Append 𝓤 H A at-mem run)
+  lower-lent-walks : (C° : Calls 𝓤 H) (Λ : Loops 𝓤 H) → FmC 𝓤 H (W .laws) C° → Triple 𝓤 (C° #lent·step·lower-step) (LowerStep 𝓤 H A at-mem run) →
+      Triple 𝓤 (C° #lent·append) (Append 𝓤 H A at-mem run)
       → Walks 𝓤 H A lower-lent.ended stayed (WpFn 𝓤 H C° Λ code.function) (lower-lent.clauses 𝓤 H A at-mem run)
   lower-lent-walks C° Λ fm known-step known-append = walked 𝓤 H A lower-lent.ended stayed (lower-lent.clauses 𝓤 H A at-mem run) (WpFn 𝓤 H C° Λ code.function)
       (λ κs. (ptr-vals, (slice-vals, (slice-vals, (slice-vals, tt)))))
@@ -269,7 +299,8 @@ lower-lent-meets : {M : Type 1} (𝓤 : URA M) (H : Heap 𝓤) (A : Atoms 𝓤) 
     → Triple 𝓤 (𝓣 .C #lent·step·lower-step) (LowerStep 𝓤 H A at-mem run) → Triple 𝓤 (𝓣 .C #lent·append) (Append 𝓤 H A at-mem run)
     → Meets 𝓤 H A lower-lent.signature (WpFn 𝓤 H (𝓣 .C) (𝓣 .Λ) code.function) (lower-lent.spec 𝓤 H A at-mem run)
 lower-lent-meets 𝓤 H A W at-mem run 𝓣 known-step known-append =
-    walk-meets 𝓤 H A lower-lent.ended stayed W (goes 𝓤 H A W at-mem run) (lower-lent.clauses 𝓤 H A at-mem run) (WpFn 𝓤 H (𝓣 .C) (𝓣 .Λ) code.function) (WpFn-mono 𝓤 H (W .laws) 𝓣 code.function)
+    walk-meets 𝓤 H A lower-lent.ended stayed W (goes 𝓤 H A W at-mem run) (lower-lent.clauses 𝓤 H A at-mem run) (WpFn 𝓤 H (𝓣 .C) (𝓣 .Λ) code.function)
+    (WpFn-mono 𝓤 H (W .laws) 𝓣 code.function)
     (lower-lent-walks 𝓤 H A W at-mem run (𝓣 .C) (𝓣 .Λ) (fmOf 𝓤 H (W .laws) 𝓣) known-step known-append)
 
 pub lower-lent-spec : {M : Type 1} → stated.statement M

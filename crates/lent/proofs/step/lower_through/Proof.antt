@@ -1,4 +1,5 @@
--- `lent::step::lower_through` meets its contract: what `lower_counted` and `written` ensure, and the zeros that it is lent, are all that the law asks.
+-- `lent::step::lower_through` meets its contract: what `lower_counted` and `written` ensure, and the zeros that it is lent, are all that the law
+-- asks.
 -- Assumes nothing.
 use Prim.Native.Nat.{ℕ}
 use mathlib.Core.List.{List}
