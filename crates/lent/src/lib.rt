@@ -54,7 +54,8 @@ fn append(diagnostics: &mut [Diagnostic], told: [Diagnostic; MOST], n: usize)
 }
 
 // Lowers a book: its counters are lent and changed, and its diagnostics are a list of records. What the counters hold at
-// entry does not matter. A book that causes 1 to 8 turn back leaves all as it was; 9 and 10 leave zeros.
+// entry does not matter. A book that causes 1 to 8 turn back leaves all as it was; 9 and 10 leave counters of 0, and zeros
+// up to the limits.
 pub fn lower_lent(
     ctx: &mut LowerCtx,
     book: &[u8],
