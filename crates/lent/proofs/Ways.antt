@@ -26,7 +26,7 @@ use Rattle.bodies.specs.Constant.{storedCount}
 use Rattle.lower.specs.LowerBook.{Reply, accepted, refused, Outcome, lowerBook, lowerRecords, ended}
 use Rattle.lower.specs.Laws.{doings}
 use Rattle.lower.specs.Counters.{counted, countersAfter, numbersGiven}
-use Rattle.lower.proofs.Written.{written-within, told-are-diagnostics}
+use Rattle.lower.proofs.Written.{written-within, numbers-are-counted, told-are-diagnostics}
 use Rattle.lower.proofs.Slices.{read-back}
 use Rattle.lower.proofs.Laws.{number-range, stop-range, lower-refused, lower-ended, Goes, turned-back, stops, ends, goes}
 use Rattle.lent.specs.declared.Diagnostic.{Diagnostic}
@@ -142,13 +142,13 @@ module _ (book results : List ℕ) (room : ℕ) (s : List ℕ) where
         ∙ ap (λ (n : ℕ). record { reply = refused (stopNumber c) p; results = cleared (roomFor 2048 results) results; diagnostics = cleared n s }) limit))
 
     way-finished : (a : Unit × Names) (st : State) → firstRefusal book ≡ none → outcome most ≡ finished a st → Way
-    unfolding ended counted numbersGiven front
+    unfolding ended counted front
     way-finished a st e h =
         let x = finished-adds (Unit × Names) most (lowerRecords (settled (read book)) (read book)) start a st h in
         let ds = st .diagnostics in
         let within = written-within book most a st bytes e (omega arith) h .1 in
         let few : length ds ≤ min 256 room = omega (arith, x .diagnostics-within (omega arith), limit-is) in
-        lowered (a .1 .next) (storedCount (settled (read book))) (st .results) ds (ap (λ (y : Unit × Names). y .1 .next) (sym (x .gives))) (x .diagnostics)
+        lowered (a .1 .next) (storedCount (settled (read book))) (st .results) ds (numbers-are-counted book most a st bytes e (omega arith) h) (x .diagnostics)
         (rw (x .diagnostics) (told-are-diagnostics (read book))) within few
         (both-by _ _ (lower-ended book results (bytesFor room) (finished a st) e h) (counters-ended (finished a st) e h)
         (ap (map diagnosticOf) (read-back ds (bytesFor room) within))

@@ -70,7 +70,7 @@ pub record Fits (d : Diagnostic) : Type 0 where
   pub offset : d .span .offset < 2 ^ 32
   pub len : d .span .len < 2 ^ 32
 
--- no two lists of structs have the same bytes, so the bytes that are left tell the structs
+-- no two lists of such structs have the same bytes, so the bytes that are left tell the structs
 abbrev pub BytesTellStructs : Type 0
 BytesTellStructs = (ds es : List Diagnostic) → All Fits ds → All Fits es → encoded ds ≡ encoded es → ds ≡ es
 

@@ -59,7 +59,8 @@ LoweredLent ctx book results diagnostics reply ctx′ results′ diagnostics′ 
     record { reply = replyOf reply; ctx = ctx′; results = results′; diagnostics = diagnostics′ }
     ≡ lowerLent ctx book results diagnostics
 
--- the promise of the value form, for a list of so many structs
+-- the promise of the value form, for a list of so many structs: what `lowerLent` gives for one, the structs at its front in an array of 256, with zero
+-- ones behind them. They are no more than the array and the list hold
 pub record Stepped (ctx : LowerCtx) (book results : List ℕ) (room : ℕ) (x : Step) (results′ : List ℕ) : Type 0 where
   pub reply-is : replyOf (x .reply) ≡ (asBytes book results room) .reply
   pub ctx-is : x .ctx ≡ countersAfter ctx book results (bytesFor room)

@@ -1,15 +1,17 @@
--- No step beyond the 65th, records within their widths, diagnostics of their form, and the 41s those of the reached constants.
+-- No step beyond the 65th, records within their widths, numbers given, diagnostics of their form, and the 41s those of the reached constants.
 -- Assumes nothing.
 use Prim.Native.Nat.{ℕ, suc, _^_, _≤_, _<_}
 use mathlib.Core.Bool.{Bool, true, false}
 use mathlib.Core.List.{List, [], _∷_, append-nil}
-use mathlib.Core.Path.{_≡_, refl, ap, _∙_, subst}
+use mathlib.Core.Option.{none}
+use mathlib.Core.Path.{_≡_, refl, sym, ap, _∙_, subst}
 use native.Mathlib.Omega.{arith}
 use lib.Dec.{eqb}
 use lib.ListN.{length}
 use Rattle.record.specs.declared.Record.{Record}
+use Rattle.record.specs.Bytes.{AreBytes}
 use Rattle.record.specs.Layout.{Within}
-use Rattle.book.specs.Blocks.{records}
+use Rattle.book.specs.Refusal.{firstRefusal}
 use Rattle.book.specs.Faults.{isKind}
 use Rattle.book.specs.Outline.{Book, read}
 use Rattle.book.specs.Lists.{All, keep}
@@ -25,7 +27,7 @@ use Rattle.types.specs.Resolved.{Names}
 use Rattle.types.specs.Step.{isStored}
 use Rattle.types.specs.Diagnostic.{IsDiagnostic}
 use Rattle.types.specs.Numbers.{plainAliases, registerDeclarations}
-use Rattle.types.proofs.Does.{all-events, all-split}
+use Rattle.types.proofs.Does.{Does, all-events, the-answer, all-split}
 use Rattle.types.proofs.Steps.{Sound, Below, Fine, keeps-next, keeps-each}
 use Rattle.types.proofs.Adds.{finished-adds}
 use Rattle.types.proofs.Start.{start-sound}
@@ -35,24 +37,33 @@ use Rattle.bodies.specs.Constant.{constantsIn}
 use Rattle.bodies.proofs.Constant.{keeps-constants, writes-constants, marked, marked-are-counted}
 use Rattle.bodies.proofs.Bodies.{keeps-bodies}
 use Rattle.lower.specs.LowerBook.{lowerRecords}
-use Rattle.lower.specs.Written.{NoStepBeyond, WrittenWithin, ToldAreDiagnostics, ReachedAreWritten, StoredAreCounted}
+use Rattle.lower.specs.Counters.{numbersGiven}
+use Rattle.lower.specs.Written.{NoStepBeyond, WrittenWithin, NumbersAreCounted, ToldAreDiagnostics, ReachedAreWritten, StoredAreCounted}
 
--- of all that is done for a book. Where W is given, its records, the values of its constants and the names of its declarations are within
--- their widths, and so are the numbers of results.
-all-fine :
-    (W : Type 0) (book : Book) →
-    (W → All Within (book .records) × All (λ c. IsI64 (c .value)) (settled book) × Sound (registerDeclarations book) 0) →
-    ((m : ℕ) → suc m ≤ length (written (events (lowerRecords (settled book) book) 0)) → W → m < 2 ^ 16) →
-    All (Fine W ⊥) (events (lowerRecords (settled book) book) 0)
+-- a book's records, the values of its constants and the names of its declarations are within their widths
+abbrev SizedBook : Book → Type 0
+SizedBook book = All Within (book .records) × All (λ c. IsI64 (c .value)) (settled book) × Sound (registerDeclarations book) 0
+
+-- of all that is done for a book, and of the names behind it. Where W is given, the book is within its widths.
+does-all :
+    (W : Type 0) (book : Book) → (W → SizedBook book) →
+    Does (Below W) (Fine W ⊥) (λ (x : Unit × Names) n. Unit × (W → Sound (x .1) n)) (lowerRecords (settled book) book) 0
 unfolding lowerRecords
-all-fine W book given below =
-    all-events (Below W) (Fine W ⊥) _ (lowerRecords (settled book) book) 0 (λ m l. below m (omega arith))
-    ((keeps-next {S = ⊥}
+does-all W book given =
+    (keeps-next {S = ⊥}
     (keeps-next
     (keeps-each _ (keeps-alias book (λ w. given w .0)) (plainAliases book))
     (keeps-constants book (λ w. given w .0) (λ s. s) (settled book) (λ w. given w .1)))
     (keeps-bodies book (λ w. given w .0)))
-    .does (registerDeclarations book) 0 (λ w. given w .2))
+    .does (registerDeclarations book) 0 (λ w. given w .2)
+
+-- of each event, if the numbers of results are within their widths too
+all-fine :
+    (W : Type 0) (book : Book) → (W → SizedBook book) →
+    ((m : ℕ) → suc m ≤ length (written (events (lowerRecords (settled book) book) 0)) → W → m < 2 ^ 16) →
+    All (Fine W ⊥) (events (lowerRecords (settled book) book) 0)
+all-fine W book given below =
+    all-events (Below W) (Fine W ⊥) _ (lowerRecords (settled book) book) 0 (λ m l. below m (omega arith)) (does-all W book given)
 
 pub no-step-beyond : NoStepBeyond
 no-step-beyond book before rest d e =
@@ -103,20 +114,32 @@ all-written (resolves d ∷ es) h = all-written es (h .1)
 all-written (tells r ∷ es) h = let x = all-written es (h .1) in (x .0, (h .0 .1 tt, x .1))
 all-written (writes r ∷ es) h = let x = all-written es (h .1) in ((h .0 .1 tt, x .0), x .1)
 
-pub written-within : WrittenWithin
+-- a book of bytes that none of 1 to 8 refuses is within its widths
+accepted-sized : (book : List ℕ) → AreBytes book → firstRefusal book ≡ none → SizedBook (read book)
 unfolding read
+accepted-sized book each e = (
+  records-within book each,
+  settled-are-i64 book each,
+  start-sound (read book) (omega (arith, accepted-is-readable book e .few-records, accepted-is-readable book e .counted)),
+)
+
+pub written-within : WrittenWithin
 written-within book most a s each e few h =
     let t = lowerRecords (settled (read book)) (read book) in
     let x = finished-adds (Unit × Names) most t start a s h in
     let less : length (s .results) ≤ 2048 = omega (arith, x .results-within (omega arith)) in
     let y =
     all-written (events t 0)
-    (all-fine Unit (read book) (λ w. given) (λ m l w. omega (arith, ap (λ (rs : List Record). length rs) (x .results)))) in
+    (all-fine Unit (read book) (λ w. accepted-sized book each e) (λ m l w. omega (arith, ap (λ (rs : List Record). length rs) (x .results)))) in
     (rw (x .results) (y .0), rw (x .diagnostics) (y .1))
-  where
-    given : All Within (records book) × All (λ c. IsI64 (c .value)) (settled (read book)) × Sound (registerDeclarations (read book)) 0
-    given = (
-      records-within book each,
-      settled-are-i64 book each,
-      start-sound (read book) (omega (arith, accepted-is-readable book e .few-records, accepted-is-readable book e .counted)),
-    )
+
+pub numbers-are-counted : NumbersAreCounted
+unfolding numbersGiven
+numbers-are-counted book most a s each e few h =
+    let t = lowerRecords (settled (read book)) (read book) in
+    let x = finished-adds (Unit × Names) most t start a s h in
+    let less : length (s .results) ≤ 2048 = omega (arith, x .results-within (omega arith)) in
+    let y =
+    the-answer (Below Unit) (Fine Unit ⊥) _ t 0 (λ m l w. omega (arith, ap (λ (rs : List Record). length rs) (x .results)))
+    (does-all Unit (read book) (λ w. accepted-sized book each e)) in
+    ap (λ (z : Unit × Names). z .1 .next) (sym (x .gives)) ∙ y .1 tt .counted

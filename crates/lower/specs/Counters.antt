@@ -1,6 +1,6 @@
 -- The counters of numbers, results and diagnostics behind the lowering of a book. Words in quotation marks are document 01's.
 -- Assumes nothing.
-use Prim.Native.Nat.{ℕ}
+use Prim.Native.Nat.{ℕ, _+_}
 use mathlib.Core.List.{List}
 use mathlib.Core.Option.{some, none}
 use lib.ListN.{length}
@@ -27,6 +27,9 @@ countersAfter ctx book results diagnostics =
       | none ↦ counted (run (usedLimits results diagnostics) (lowerRecords (settled (read book)) (read book)) start)
     ]
 
--- the numbers that are given for a book, whatever the slices hold
+-- how many numbers are given for a book, whatever the slices hold: one to each name that has a number of its own, and one to each pair. "20-22 numbered
+-- from 0, then generic aliases, then stubs as met"
 unfoldable pub numbersGiven : Book → ℕ
-numbersGiven book = (answer (lowerRecords (settled book) book) 0) .1 .next
+numbersGiven book =
+    let names : Names = (answer (lowerRecords (settled book) book) 0) .1 in
+    length (names .numbers) + length (names .pairs)

@@ -18,6 +18,7 @@ use Rattle.types.specs.Step.{isStored}
 use Rattle.types.specs.Diagnostic.{IsDiagnostic}
 use Rattle.bodies.specs.Constant.{constantsIn, constantOf, storedCount}
 use Rattle.lower.specs.LowerBook.{lowerRecords}
+use Rattle.lower.specs.Counters.{numbersGiven}
 
 -- "resolving deeper than 64": the step at which 9 is given is the 65th, and no lowering goes beyond it
 abbrev pub NoStepBeyond : Type 0
@@ -34,6 +35,16 @@ WrittenWithin =
     most .results ≤ 2048 →
     run most (lowerRecords (settled (read book)) (read book)) start ≡ finished a s →
     All Within (s .results) × All Within (s .diagnostics)
+
+-- the number that would be given next is how many were given
+abbrev pub NumbersAreCounted : Type 0
+NumbersAreCounted =
+    (book : List ℕ) (most : Limits) (a : Unit × Names) (s : State) →
+    AreBytes book →
+    firstRefusal book ≡ none →
+    most .results ≤ 2048 →
+    run most (lowerRecords (settled (read book)) (read book)) start ≡ finished a s →
+    a .1 .next ≡ numbersGiven (read book)
 
 -- every diagnostic that is told has the form of one
 abbrev pub ToldAreDiagnostics : Type 0

@@ -2,11 +2,12 @@
 -- Assumes nothing.
 use Prim.Native.Nat.{ℕ, suc, _+_, _≤_}
 use mathlib.Core.List.{List, [], _∷_, _++_}
+use mathlib.Core.Path.{_≡_}
 use native.Mathlib.Omega.{arith}
 use lib.ListN.{length}
 use Rattle.book.specs.Lists.{All}
 use Rattle.types.specs.Lowering.{Lowering, done, lowering, resolving, diagnostic, result, andThen}
-use Rattle.types.specs.Events.{Event, lowers, resolves, tells, writes, events, written}
+use Rattle.types.specs.Events.{Event, lowers, resolves, tells, writes, events, answer, written}
 
 -- N: the numbers that a result may have. P: of each event. Q: of the answer, n results being there
 module _ (N : ℕ → Type 0) (P : Event → Type 0) where
@@ -43,6 +44,22 @@ module _ (N : ℕ → Type 0) (P : Event → Type 0) where
   all-events Q (result r k) n h d =
       let x = d (h n (omega arith)) in
       (x .0, all-events Q (k n) (suc n) (λ m l. h m (omega arith)) (x .1))
+
+  -- and so does what holds of the answer
+  pub the-answer :
+      {A : Type 0} (Q : A → ℕ → Type 0) (t : Lowering A) (n : ℕ) →
+      ((m : ℕ) → suc m ≤ n + length (written (events t n)) → N m) →
+      Does Q t n →
+      Q (answer t n) (n + length (written (events t n)))
+  unfolding events written answer
+  the-answer Q (done a) n h d = let same : n + 0 ≡ n = omega arith in rw same d
+  the-answer Q (lowering p t) n h d = the-answer Q t n h (d .1)
+  the-answer Q (resolving e t) n h d = the-answer Q t n h (d .1)
+  the-answer Q (diagnostic r t) n h d = the-answer Q t n h (d .1)
+  the-answer Q (result r k) n h d =
+      let x = d (h n (omega arith)) in
+      let far : suc n + length (written (events (k n) (suc n))) ≡ n + suc (length (written (events (k n) (suc n)))) = omega arith in
+      rw (← far) (the-answer Q (k n) (suc n) (λ m l. h m (omega arith)) (x .1))
 
 -- of all events: of one that stands among them, and of the records written and told
 pub all-split : (P : Event → Type 0) (before rest : List Event) (e : Event) → All P (before ++ (e ∷ rest)) → P e

@@ -6,6 +6,7 @@ use mathlib.Core.List.{List, [], _∷_}
 use mathlib.Core.Option.{Option, some, none, Option·map}
 use native.Mathlib.Omega.{arith}
 use lib.Dec.{eqb, lit<}
+use lib.ListN.{length-append}
 use Rattle.book.specs.Lists.{All, find}
 use Rattle.book.specs.Outline.{Book}
 use Rattle.book.proofs.Lists.{If, all-append, if-find}
@@ -86,6 +87,7 @@ stub-sound n s k below g =
       numbers = all-append (λ x. x .1 < 2 ^ 64) (s .numbers) _ (g .numbers) (omega arith);
       pairs = g .pairs;
       aliases = g .aliases;
+      counted = omega (arith, g .counted, length-append (s .numbers) ((n, s .next) ∷ []));
     }
 
 pub pair-sound : (space n : ℕ) (s : Names) (k : ℕ) → k < 2 ^ 16 → Sound s k → Sound (withPair space n s) (suc k)
@@ -96,6 +98,7 @@ pair-sound space n s k below g =
       numbers = g .numbers;
       pairs = all-append (λ x. x .1 < 2 ^ 64) (s .pairs) _ (g .pairs) (omega arith);
       aliases = g .aliases;
+      counted = omega (arith, g .counted, length-append (s .pairs) (((space, n), s .next) ∷ []));
     }
 
 pub alias-sound : (n : ℕ) (t : ResolvedType) (s : Names) (k : ℕ) → Sized t → Sound s k → Sound (withAlias n t s) k
@@ -106,4 +109,5 @@ alias-sound n t s k h g =
       numbers = g .numbers;
       pairs = g .pairs;
       aliases = all-append (λ x. Sized (x .1)) (s .aliases) _ (g .aliases) (h, tt);
+      counted = g .counted;
     }

@@ -3,6 +3,7 @@
 use Prim.Native.Nat.{ℕ, suc, _+_, _^_, _≤_, _<_}
 use mathlib.Core.Bool.{Bool}
 use mathlib.Core.List.{List, [], _∷_, _++_, map}
+use mathlib.Core.Path.{_≡_, refl, ap}
 use native.Mathlib.Nat.{le-trans}
 use native.Mathlib.Omega.{arith}
 use lib.ListN.{length, length-append, length-map}
@@ -37,9 +38,22 @@ unfolding numberedFrom
 numbers-below n [] h = tt
 numbers-below n (x ∷ l) h = (omega arith, numbers-below (suc n) l (omega arith))
 
+-- and as many as there are names
+numbers-many : (n : ℕ) (l : List ℕ) → length (map {B = ℕ × ℕ} (λ x. (x .1, x .0)) (numberedFrom n l)) ≡ length l
+unfolding numberedFrom
+numbers-many n [] = refl
+numbers-many n (x ∷ l) = ap suc (numbers-many (suc n) l)
+
 pub start-sound : (book : Book) → length (book .records) ≤ 2 ^ 31 → Sound (registerDeclarations book) 0
 unfolding registerDeclarations
-start-sound book h = record { next = few; numbers = numbers-below 0 (map nameOf declared) (omega (arith, few)); pairs = tt; aliases = tt }
+start-sound book h =
+    record {
+      next = few;
+      numbers = numbers-below 0 (map nameOf declared) (omega (arith, few));
+      pairs = tt;
+      aliases = tt;
+      counted = omega (arith, numbers-many 0 (map nameOf declared));
+    }
   where
     declared : List ℕ
     declared = typeDeclarations book ++ genericAliases book

@@ -6,6 +6,7 @@ use mathlib.Core.List.{List, [], _∷_}
 use mathlib.Core.Path.{_≡_, refl}
 use native.Mathlib.Omega.{arith}
 use lib.Dec.{lit<}
+use lib.ListN.{length}
 use Rattle.record.specs.declared.Record.{Record}
 use Rattle.record.specs.declared.Span.{Span}
 use Rattle.record.specs.Layout.{Within}
@@ -32,15 +33,17 @@ Sized (inlineBits n) = n < 2 ^ 16
 abbrev pub SizedSpan : Span → Type 0
 SizedSpan s = (s .offset < 2 ^ 32) × (s .len < 2 ^ 32)
 
--- numbers and types of names are within their widths, n results being there: each stub is a result
+-- numbers and types of names are within their widths, n results being there: each stub is a result; as many numbers are given as names and pairs have one
 pub record Sound (s : Names) (n : ℕ) : Type 0 where
   pub next : s .next ≤ 2 ^ 32 + n
   pub numbers : All (λ x. x .1 < 2 ^ 64) (s .numbers)
   pub pairs : All (λ x. x .1 < 2 ^ 64) (s .pairs)
   pub aliases : All (λ x. Sized (x .1)) (s .aliases)
+  pub counted : s .next ≡ length (s .numbers) + length (s .pairs)
 
 pub one-more : {s : Names} {n : ℕ} → Sound s n → Sound s (suc n)
-one-more g = record { next = omega arith; numbers = g .numbers; pairs = g .pairs; aliases = g .aliases }
+one-more g =
+    record { next = omega arith; numbers = g .numbers; pairs = g .pairs; aliases = g .aliases; counted = g .counted }
 
 -- Where W is given, records are within their widths: of a result's number and of a resolved type
 module _ (W : Type 0) where
