@@ -1,6 +1,6 @@
 -- The record form is the byte form, and what each reply says of the counters and the structs.
 -- Assumes nothing.
-use Prim.Native.Nat.{ℕ, _-_, _*_, min}
+use Prim.Native.Nat.{ℕ, min}
 use mathlib.Core.List.{List, _++_, map}
 use mathlib.Core.Path.{_≡_, refl, sym, ap, _∙_}
 use native.Mathlib.Omega.{arith}
@@ -13,7 +13,7 @@ use Rattle.lent.specs.Diagnostics.{diagnosticOf, encoded, noDiagnostic}
 use Rattle.lent.specs.Lent.{bytesFor, front, frontOf, LentOutcome, lowerLent}
 use Rattle.lent.specs.Laws.{SameAsBytes, RecordFormIsByteForm, RunsAgree, Leaves, StructsAreLeft}
 use Rattle.lent.proofs.Structs.{structs-length, told-bytes, cleared-bytes}
-use Rattle.lent.proofs.Ways.{Both, Way, left-alone, zeroed, lowered, way}
+use Rattle.lent.proofs.Ways.{Both, Way, left-alone, zeroed, lowered, zeros-room, way}
 
 -- the record form is the byte form
 module _ (ctx : LowerCtx) (book results : List ℕ) (lent : List Diagnostic) where
@@ -105,8 +105,7 @@ module _ (ctx : LowerCtx) (book results : List ℕ) (lent : List Diagnostic) whe
 
 pub structs-are-left : StructsAreLeft
 structs-are-left ctx book results lent bytes =
-    let long : length (bytesFor (length lent)) ≡ 24 * length lent = length-replicate (24 * length lent) 0 in
-    leaves ctx book results lent (way book results (length lent) (bytesFor (length lent)) bytes (omega arith))
+    leaves ctx book results lent (way book results (length lent) (bytesFor (length lent)) bytes (zeros-room (length lent)))
 
 -- over runs
 pub runs-agree : RunsAgree

@@ -22,7 +22,7 @@ use Rattle.lent.specs.declared.Diagnostic.{Diagnostic}
 use Rattle.lent.specs.Diagnostics.{diagnosticOf, noDiagnostic}
 use Rattle.lent.specs.Lent.{bytesFor, asBytes, front, frontOf, Stepped}
 use Rattle.lent.proofs.Structs.{read-cleared}
-use Rattle.lent.proofs.Ways.{Both, Way, left-alone, zeroed, lowered, way, limit-is, counters-with}
+use Rattle.lent.proofs.Ways.{Both, Way, left-alone, zeroed, lowered, zeros-room, way, counters-with}
 
 -- a book was lowered with 24 zeros for each struct that may be told, and n structs are read from what is left there
 pub record Lowers (ctx : LowerCtx) (book results : List ℕ) (room : ℕ) (c : Counted) (results′ s′ : List ℕ) (n : ℕ) : Type 0 where
@@ -38,7 +38,7 @@ module _
   s = bytesFor (min 256 room)
 
   limited : roomFor 256 s ≡ min 256 room
-  limited = let long : length s ≡ 24 * min 256 room = length-replicate (24 * min 256 room) 0 in omega arith
+  limited = omega (arith, zeros-room (min 256 room))
 
   -- what is read there are the structs at the front, and all else is as with a slice for so many structs
   record Reads : Type 0 where
@@ -94,7 +94,7 @@ module _
   stepped told e =
       record {
         reply-is = reads .reply-same;
-        ctx-is = x .counters ∙ counters-with ctx book results s (bytesFor room) (limited ∙ sym (limit-is book results room s (x .bytes) limited));
+        ctx-is = x .counters ∙ counters-with ctx book results s (bytesFor room) (limited ∙ sym (zeros-room room));
         results-are = reads .results-same;
         count-is = reads .count-is;
         told-are = e ∙ ap (λ (l : List Diagnostic). l ++ replicate (256 - n) noDiagnostic) (reads .read-are);

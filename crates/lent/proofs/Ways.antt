@@ -12,7 +12,7 @@ use Rattle.record.specs.declared.Record.{Record}
 use Rattle.record.specs.Bytes.{AreBytes}
 use Rattle.record.specs.Layout.{Within}
 use Rattle.record.specs.Write.{roomFor, withRecords, cleared}
-use Rattle.book.specs.Lists.{All, from}
+use Rattle.book.specs.Lists.{All}
 use Rattle.book.specs.Refusal.{Refusal, number, firstRefusal}
 use Rattle.book.specs.Outline.{read}
 use Rattle.constants.specs.OfBook.{settled}
@@ -54,6 +54,10 @@ count-none n p room bytes h = rw (front-none n p room bytes h)
 pub count-zeros : (n p room : ℕ) (bytes : List ℕ) → 9 ≤ n → min 256 room ≡ length (front (refused n p) bytes room)
 count-zeros n p room bytes h = rw (front-zeros n p room bytes h) (sym (length-replicate (min 256 room) noDiagnostic))
 
+-- the used limit of a diagnostics slice for so many structs
+pub zeros-room : (n : ℕ) → roomFor 256 (bytesFor n) ≡ min 256 n
+zeros-room n = let long : length (bytesFor n) ≡ 24 * n = length-replicate (24 * n) 0 in omega arith
+
 -- A book is lowered with a diagnostics slice for so many structs, and with another, s, that has the same used limit
 module _ (book results : List ℕ) (room : ℕ) (s : List ℕ) where
   -- what both give: the reply, the results, and the counters by those at entry; the structs at the front, and what is left in s
@@ -86,11 +90,8 @@ module _ (book results : List ℕ) (room : ℕ) (s : List ℕ) where
     abbrev most : Limits
     most = usedLimits results (bytesFor room)
 
-    pub limit-is : roomFor 256 (bytesFor room) ≡ min 256 room
-    limit-is = let long : length (bytesFor room) ≡ 24 * room = length-replicate (24 * room) 0 in omega arith
-
     limits : most ≡ usedLimits results s
-    limits = ap (λ (n : ℕ). record { results = roomFor 2048 results; diagnostics = n }) (limit-is ∙ sym limit)
+    limits = ap (λ (n : ℕ). record { results = roomFor 2048 results; diagnostics = n }) (zeros-room room ∙ sym limit)
 
     -- both, from what each gives
     both-by :
@@ -147,7 +148,7 @@ module _ (book results : List ℕ) (room : ℕ) (s : List ℕ) where
         let x = finished-adds (Unit × Names) most (lowerRecords (settled (read book)) (read book)) start a st h in
         let ds = st .diagnostics in
         let within = written-within book most a st bytes e (omega arith) h .1 in
-        let few : length ds ≤ min 256 room = omega (arith, x .diagnostics-within (omega arith), limit-is) in
+        let few : length ds ≤ min 256 room = omega (arith, x .diagnostics-within (omega arith), zeros-room room) in
         lowered (a .1 .next) (storedCount (settled (read book))) (st .results) ds (numbers-are-counted book most a st bytes e (omega arith) h) (x .diagnostics)
         (rw (x .diagnostics) (told-are-diagnostics (read book))) within few
         (both-by _ _ (lower-ended book results (bytesFor room) (finished a st) e h) (counters-ended (finished a st) e h)
