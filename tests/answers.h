@@ -1,10 +1,9 @@
-/* The function that target/staticlib/liblower.a exports, and the list of answers (docs/ANSWERS.md): it is read from standard input, once, into
-   memory that cannot be written afterwards. This file comes before every other one that is included. */
+/* The library's own header, and the list of answers (docs/ANSWERS.md): it is read from standard input, once, into memory that cannot be written
+   afterwards. This file comes before every other one that is included. */
 #ifndef ANSWERS_H
 #define ANSWERS_H
 #define _GNU_SOURCE
-#include <stddef.h>
-#include <stdint.h>
+#include "../include/signal_book.h"
 #include <stdio.h>
 #include <stdlib.h>
 #include <string.h>
@@ -12,11 +11,8 @@
 #include <sys/stat.h>
 #include <unistd.h>
 
-void signal_book_lower(const uint8_t *book, size_t book_len, uint8_t *results, size_t results_len,
-                       uint8_t *diagnostics, size_t diagnostics_len, uint64_t reply[4]);
-
 /* Lengths in bytes: of a record, of the used limits, and the longest that the list has of a book and of either slice. */
-enum { RECORD = 24, RESULTS_LIMIT = 49152, DIAGNOSTICS_LIMIT = 6144 };
+enum { RECORD = SIGNAL_BOOK_RECORD, RESULTS_LIMIT = SIGNAL_BOOK_RESULTS_LIMIT, DIAGNOSTICS_LIMIT = SIGNAL_BOOK_DIAGNOSTICS_LIMIT };
 enum { LONGEST_BOOK = 33280, LONGEST_RESULTS = 49200, LONGEST_DIAGNOSTICS = 6192, LONGEST = LONGEST_RESULTS };
 
 /* What is put around a region that is lent, so that a byte written there shows. */
@@ -116,6 +112,14 @@ static inline struct list read_list(void) {
     if (left) missing("the list goes on behind its last answer");
     if (mprotect(bytes, size, PROT_READ)) missing("the list cannot be made read-only");
     return list;
+}
+
+static inline const struct answer *answer_named(const struct list *list, const char *name) {
+    for (size_t i = 0; i < list->count; i++) {
+        if (strcmp(list->answers[i].name, name) == 0) return list->answers + i;
+    }
+    fprintf(stderr, "the list has no answer %s\n", name);
+    exit(2);
 }
 
 /* Whether n bytes are `front` as far as `written` bytes go, and as lent behind them. */

@@ -47,14 +47,6 @@ __attribute__((format(printf, 1, 2))) static _Noreturn void wrong(const char *fo
     _exit(1);
 }
 
-static const struct answer *named(const char *name) {
-    for (size_t i = 0; i < list.count; i++) {
-        if (strcmp(list.answers[i].name, name) == 0) return list.answers + i;
-    }
-    fprintf(stderr, "the list has no answer %s\n", name);
-    exit(2);
-}
-
 /* ---- faults: a thread comes back to where it called from, with the address ---- */
 
 static _Thread_local sigjmp_buf before_call;
@@ -277,7 +269,7 @@ static struct answer read_k1(const char *path) {
 
 /* A known book with its records: those of K1 by hand, all others as the list has them. */
 static struct answer full_answer(const struct known *k, const struct answer *k1) {
-    struct answer a = strcmp(k->name, "K1") == 0 ? *k1 : *named(k->name);
+    struct answer a = strcmp(k->name, "K1") == 0 ? *k1 : *answer_named(&list, k->name);
     if (a.results_written != RECORD * k->counts[0] || a.diagnostics_written != RECORD * k->counts[1]) {
         wrong("%s: the list has other counts than those known by hand", a.name);
     }
@@ -441,7 +433,7 @@ static size_t shifted(const struct answer *a, const struct arena arenas[REGIONS]
 static void try_shifts(const struct arena arenas[REGIONS]) {
     static const char *const names[] = {"K1", "told-by-two-constants", "K10", "K2-24-24", "refused-short", "64-blocks", "5-record-1343"};
     size_t calls = 0, count = sizeof names / sizeof *names;
-    for (size_t i = 0; i < count; i++) calls += shifted(named(names[i]), arenas);
+    for (size_t i = 0; i < count; i++) calls += shifted(answer_named(&list, names[i]), arenas);
     printf("5 alignment: %zu books, %zu calls over all 8 shifts of each of the four pointers\n", count, calls);
 }
 

@@ -26,7 +26,7 @@ impl<'a> Diagnostics<'a> {
     /// diagnostics have.
     pub fn new(bytes: &'a [u8]) -> Option<Diagnostics<'a>> {
         let diagnostics = Diagnostics { bytes };
-        let whole = bytes.len() % RECORD == 0 && diagnostics.len() <= MOST_DIAGNOSTICS;
+        let whole = bytes.chunks_exact(RECORD).remainder().is_empty() && diagnostics.len() <= MOST_DIAGNOSTICS;
         let form = |record: Record| record.kind() == 50 && record.sub() <= 5 && record.v() <= 2;
         (whole && diagnostics.records().all(form)).then_some(diagnostics)
     }

@@ -52,7 +52,7 @@ pub use record::{Fields, Name, Record, Span, Text, BLOCK, BLOCKS, NONE, PLACES, 
 pub use refused::{Cause, Place, Refused};
 pub use results::{
     Alias, Constant, Constraint, ConstraintOperand, Declaration, Field, FieldConstraint, FieldEncoding, Item, Message,
-    Newtype, ResolvedType, Results, Tombstone, Type, TypeId, Union, Variant, POISON_TYPE_ID,
+    Newtype, ResolvedType, Results, Tombstone, Type, TypeId, Union, UnionItem, Variant, POISON_TYPE_ID,
 };
 pub use words::{Annotation, BinOpKind, CmpOp, Encoding, PrimitiveType, SemanticType};
 pub use write::{InWords, Numbers, Words};

@@ -8,7 +8,7 @@ use std::fmt;
 #[repr(u8)]
 pub enum Cause {
     /// The length is 0, above 32,768, or no multiple of 512.
-    Length = 1,
+    BookLength = 1,
     /// The check of a block is wrong: the bytes are not those that were written.
     Check = 2,
     /// Another rule of a block is broken: its number, its count of records, or bytes that must be zero.
@@ -24,15 +24,15 @@ pub enum Cause {
     /// A tree that is deeper than 64 records.
     Depth = 8,
     /// A type that takes more than 64 steps to resolve.
-    Resolving = 9,
+    TooDeep = 9,
     /// One record more than a lent slice holds, or than 2,048 results or 256 diagnostics.
-    Room = 10,
+    Full = 10,
 }
 
 impl Cause {
     /// All ten, by number.
     pub const ALL: [Cause; 10] = [
-        Cause::Length,
+        Cause::BookLength,
         Cause::Check,
         Cause::Block,
         Cause::Shape,
@@ -40,8 +40,8 @@ impl Cause {
         Cause::Follow,
         Cause::Name,
         Cause::Depth,
-        Cause::Resolving,
-        Cause::Room,
+        Cause::TooDeep,
+        Cause::Full,
     ];
 
     /// Its number, 1 to 10.
@@ -57,18 +57,18 @@ impl Cause {
     /// It in plain words.
     pub fn words(self) -> &'static str {
         match self {
-            Cause::Length => "the length is 0, above 32768 bytes, or no multiple of 512",
+            Cause::BookLength => "the length is 0, above 32768 bytes, or no multiple of 512",
             Cause::Check => "the check of the block is wrong, so its bytes are not those that were written",
             Cause::Block => {
-                "the block has a wrong number, count of records or wildcard byte, or bytes that are not zero where they must be"
+                "the block has a wrong number, count of records or wildcard byte, or bytes that must be zero and are not"
             }
             Cause::Shape => "the record has an unknown kind, or a sub or a field outside its values",
             Cause::Child => "a child of the record does not stand before it, is of another group, or is used before",
             Cause::Follow => "the record may not stand behind the one before it, or in this declaration",
             Cause::Name => "the name is declared already",
             Cause::Depth => "the tree is deeper than 64 records",
-            Cause::Resolving => "a type takes more than 64 steps to resolve",
-            Cause::Room => "there is no room for one more result or diagnostic",
+            Cause::TooDeep => "a type takes more than 64 steps to resolve",
+            Cause::Full => "there is no room for one more result or diagnostic",
         }
     }
 }
@@ -134,7 +134,7 @@ impl Refused {
     /// Where, with what the place is.
     pub fn at(self) -> Place {
         match self.cause {
-            Cause::Length => Place::Book,
+            Cause::BookLength => Place::Book,
             Cause::Check | Cause::Block => Place::Block(self.place),
             _ => Place::Record(self.place),
         }

@@ -51,7 +51,7 @@ impl<'a> Results<'a> {
     /// results have.
     pub fn new(bytes: &'a [u8]) -> Option<Results<'a>> {
         let results = Results { bytes };
-        let whole = bytes.len() % RECORD == 0 && results.len() <= MOST_RESULTS;
+        let whole = bytes.chunks_exact(RECORD).remainder().is_empty() && results.len() <= MOST_RESULTS;
         (whole && (0..results.len()).all(|number| results.has_form(number))).then_some(results)
     }
 
@@ -326,6 +326,11 @@ impl<'a> Message<'a> {
 }
 
 impl<'a> Union<'a> {
+    /// Its variants and its own tombstones, in book order.
+    pub fn items(self) -> impl Iterator<Item = UnionItem<'a>> {
+        self.0.body().filter_map(UnionItem::at)
+    }
+
     /// Its variants.
     pub fn variants(self) -> impl Iterator<Item = Variant<'a>> {
         self.0.body().filter(|at| at.kind() == 44).map(Variant)
@@ -334,6 +339,24 @@ impl<'a> Union<'a> {
     /// What was removed from the union itself; a variant has its own.
     pub fn tombstones(self) -> impl Iterator<Item = Tombstone<'a>> {
         self.0.body().filter(of_union).map(Tombstone)
+    }
+}
+
+/// What stands in a union.
+#[derive(Clone, Copy)]
+pub enum UnionItem<'a> {
+    /// Kind 44.
+    Variant(Variant<'a>),
+    /// Kind 47, of the union itself.
+    Tombstone(Tombstone<'a>),
+}
+
+impl<'a> UnionItem<'a> {
+    fn at(at: At<'a>) -> Option<UnionItem<'a>> {
+        match at.kind() {
+            44 => Some(UnionItem::Variant(Variant(at))),
+            _ => of_union(&at).then_some(UnionItem::Tombstone(Tombstone(at))),
+        }
     }
 }
 
@@ -625,8 +648,6 @@ macro_rules! debug_by_parts {
         }
     )*};
     ($view:ident, items) => { List($view.items().collect()) };
-    ($view:ident, variants) => { List($view.variants().collect()) };
-    ($view:ident, tombstones) => { List($view.tombstones().collect()) };
     ($view:ident, $part:ident) => { $view.$part() };
 }
 
@@ -634,7 +655,7 @@ debug_by_parts! {
     Alias { name, ty, span }
     Constant { name, ty, value, span }
     Message { name, items, span }
-    Union { name, variants, tombstones, span }
+    Union { name, items, span }
     Newtype { name, ty, span }
     Variant { name, ordinal, items, span }
     Field { name, ordinal, ty, constraint, encoding, span }
@@ -667,6 +688,15 @@ impl fmt::Debug for Item<'_> {
         match self {
             Item::Field(field) => field.fmt(f),
             Item::Tombstone(tombstone) => tombstone.fmt(f),
+        }
+    }
+}
+
+impl fmt::Debug for UnionItem<'_> {
+    fn fmt(&self, f: &mut fmt::Formatter) -> fmt::Result {
+        match self {
+            UnionItem::Variant(variant) => variant.fmt(f),
+            UnionItem::Tombstone(tombstone) => tombstone.fmt(f),
         }
     }
 }
