@@ -1,42 +1,12 @@
-//! The proved crates `lower` and `book`, linked as static libraries. A Rattle slice is handed over as a pointer and a
-//! length.
+//! The proved crates `lower` and `book`, linked as static libraries: the function that each exports, as it answers. A Rattle
+//! slice is handed over as a pointer and a length.
 
+pub use signal_book::sys::lower_words as lower;
+
+#[cfg(feature = "reading")]
 extern "C" {
-    /// `signal_book_lower` of crates/lower.
-    fn signal_book_lower(
-        book: *const u8,
-        book_len: usize,
-        results: *mut u8,
-        results_len: usize,
-        diagnostics: *mut u8,
-        diagnostics_len: usize,
-        reply: *mut [u64; 4],
-    );
-
     /// `book_refusal` of crates/book.
-    #[cfg(feature = "reading")]
     fn book_refusal(book: *const u8, len: usize) -> u32;
-}
-
-/// Lowers a book. The four words of the reply: 0 and the counts of results, diagnostics and stored constants; or the
-/// number of the cause, the place, and two zeros.
-pub fn lower(book: &[u8], results: &mut [u8], diagnostics: &mut [u8]) -> [u64; 4] {
-    // Every word has to be written.
-    let mut reply = [u64::MAX; 4];
-    // SAFETY: the function reads the bytes of the book, writes the bytes of both slices and the four words, and no
-    // others, and keeps nothing. The borrows keep the three slices apart.
-    unsafe {
-        signal_book_lower(
-            book.as_ptr(),
-            book.len(),
-            results.as_mut_ptr(),
-            results.len(),
-            diagnostics.as_mut_ptr(),
-            diagnostics.len(),
-            &mut reply,
-        )
-    };
-    reply
 }
 
 /// The cause, 1 to 8, and the place by which reading refuses a book, or none.

@@ -94,20 +94,7 @@ impl<'a> Accepted<'a> {
 ///
 /// It takes some 137,000 bytes of stack and no other memory, keeps nothing, and may be called from several threads at once.
 pub fn lower<'a>(book: &[u8], results: &'a mut [u8], diagnostics: &'a mut [u8]) -> Result<Accepted<'a>, Refused> {
-    let mut reply = [0; 4];
-    // SAFETY: the function reads the bytes of the book, writes bytes of the two slices and the four words, and touches no
-    // others; the borrows keep all four apart. It keeps no pointer.
-    unsafe {
-        sys::signal_book_lower(
-            book.as_ptr(),
-            book.len(),
-            results.as_mut_ptr(),
-            results.len(),
-            diagnostics.as_mut_ptr(),
-            diagnostics.len(),
-            &mut reply,
-        )
-    };
+    let reply = sys::lower_words(book, results, diagnostics);
     // Every count and place of a reply is below 2,049.
     let [cause, first, second, third] = reply.map(|word| word as usize);
     match Cause::from_number(reply[0]) {

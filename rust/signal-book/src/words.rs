@@ -15,6 +15,8 @@ macro_rules! subs {
         impl $name {
             /// All cases, by sub.
             pub const ALL: &'static [$name] = &[$($name::$case),*];
+            /// Their words, by sub.
+            pub const WORDS: &'static [&'static str] = &[$($word),*];
 
             /// Its number in a record.
             pub fn sub(self) -> u8 {
@@ -28,7 +30,7 @@ macro_rules! subs {
 
             /// Its word.
             pub fn word(self) -> &'static str {
-                match self { $($name::$case => $word),* }
+                $name::WORDS[usize::from(self.sub())]
             }
         }
 

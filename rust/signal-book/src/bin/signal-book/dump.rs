@@ -23,9 +23,9 @@ pub fn dump(book: &[u8], names: &Names) -> String {
     }
     let mut head = 0;
     for (number, record) in records.iter().enumerate() {
-        let child = |slot: &Slot, number: u16| plan.child(&records, &texts, slot, number);
+        let child = |slot: &Slot, child: u16| plan.child(number, &records, &texts, slot, child);
         let text = record_text(record, names, &child);
-        if !plan.inside[number] {
+        if plan.inside[number].is_none() {
             let indent = indent(&mut head, record.kind);
             lines += &format!("{number:4}: {:indent$}{text}\n", "");
         }
@@ -66,9 +66,9 @@ fn is_default(slot: &Slot, record: &Fields) -> bool {
     slot.holds.default() == Some(slot.letter.of(record))
 }
 
-/// Which records are written inside the one that has them as a child, and which need a label.
+/// Inside which other record each is written, if inside one, and which are named by a label.
 struct Plan {
-    inside: Vec<bool>,
+    inside: Vec<Option<usize>>,
     labelled: BTreeSet<usize>,
 }
 
@@ -76,13 +76,13 @@ impl Plan {
     /// Trees stand inside their parent where this keeps the order of all records: where the children of a record are just
     /// the trees before it that nothing has taken, in the order in which they are written.
     fn of(records: &[Fields]) -> Plan {
-        let mut plan = Plan { inside: vec![false; records.len()], labelled: BTreeSet::new() };
+        let mut plan = Plan { inside: vec![None; records.len()], labelled: BTreeSet::new() };
         let mut open: Vec<usize> = Vec::new();
         for (number, record) in records.iter().enumerate() {
             let wanted: Vec<usize> = children(record).iter().map(|(_, child)| usize::from(*child)).collect();
             if open.ends_with(&wanted) {
                 open.truncate(open.len() - wanted.len());
-                wanted.iter().for_each(|child| plan.inside[*child] = true);
+                wanted.iter().for_each(|child| plan.inside[*child] = Some(number));
             } else {
                 open.clear();
                 plan.labelled.extend(wanted);
@@ -96,37 +96,36 @@ impl Plan {
     }
 
     /// A child as it is written: inside its parent, by its label, or as nothing, if there is no such record.
-    fn child(&self, records: &[Fields], texts: &[String], slot: &Slot, number: u16) -> Option<String> {
-        let at = usize::from(number);
+    fn child(&self, parent: usize, records: &[Fields], texts: &[String], slot: &Slot, child: u16) -> Option<String> {
+        let at = usize::from(child);
         let record = records.get(at)?;
-        if !self.inside[at] {
-            return Some(format!("^{number}"));
+        if self.inside[at] != Some(parent) {
+            return Some(format!("^{child}"));
         }
-        let short = slot.holds.child().and_then(|group| short(record, group, texts.get(at)?));
-        match short {
-            Some(short) if !self.labelled.contains(&at) => Some(short),
-            _ if self.labelled.contains(&at) => Some(format!("({number}: {})", texts[at])),
-            _ => Some(format!("({})", texts[at])),
+        if self.labelled.contains(&at) {
+            return Some(format!("({child}: {})", texts[at]));
         }
+        let short = slot.holds.child().and_then(|group| short(record, group, &texts[at]));
+        Some(short.unwrap_or_else(|| format!("({})", texts[at])))
     }
 }
 
 /// A record of one word where its group is wanted: the word alone, with its span.
 fn short(record: &Fields, group: Group, text: &str) -> Option<String> {
-    let head: &[&str] = match (group, record.kind, record.sub) {
-        (Group::Type, 1, _) => &["primitive "],
-        (Group::Type, 3, _) => &["semantic "],
-        (Group::Type, 4, _) => &["named "],
-        (Group::Constant, 10, 0) => &["literal int "],
-        (Group::Constant, 10, 4) if record.v < 2 => &["literal bool "],
-        (Group::Constant, 11, _) => &["reference "],
-        (Group::Operand, 16, 0) => &["operand int "],
-        (Group::Operand, 16, 3) if record.v < 2 => &["operand bool "],
-        (Group::Operand, 16, 4) => &["operand "],
-        (Group::Operand, 16, 5) => &["operand reference "],
-        _ => &[],
+    let head = match (group, record.kind, record.sub) {
+        (Group::Type, 1, _) => "primitive ",
+        (Group::Type, 3, _) => "semantic ",
+        (Group::Type, 4, _) => "named ",
+        (Group::Constant, 10, 0) => "literal int ",
+        (Group::Constant, 10, 4) if record.v < 2 => "literal bool ",
+        (Group::Constant, 11, _) => "reference ",
+        (Group::Operand, 16, 0) => "operand int ",
+        (Group::Operand, 16, 3) if record.v < 2 => "operand bool ",
+        (Group::Operand, 16, 4) => "operand ",
+        (Group::Operand, 16, 5) => "operand reference ",
+        _ => return None,
     };
-    let rest = text.strip_prefix(head.first()?)?;
+    let rest = text.strip_prefix(head)?;
     let (word, span) = rest.split_once(' ').unwrap_or((rest, ""));
     (span.is_empty() || span.starts_with('@')).then(|| format!("{word}{span}"))
 }

@@ -7,6 +7,8 @@ mod names;
 mod page;
 mod paint;
 mod rows;
+#[cfg(test)]
+mod tests;
 
 use names::Names;
 use paint::Paint;

@@ -121,7 +121,8 @@ impl<'a> Page<'a> {
         }
         let declared = records.iter().filter(|record| record.kind == 24).filter_map(|record| Name::new(record.a));
         for name in declared.filter(|name| !reached.contains(name)) {
-            rows.push(vec![self.words.name(name), "not reached: a reference is repeated or leads into a ring".into()]);
+            let why = "not reached: a reference is repeated or leads into a ring";
+            rows.push(vec![self.words.name(name), String::new(), why.into()]);
         }
         if !rows.is_empty() {
             self.heading("constants");

@@ -1,6 +1,6 @@
 //! The words of the text form: for each kind and sub, what the record is called and what its fields hold.
 
-use signal_book::Fields;
+use signal_book::{Annotation, BinOpKind, Fields, PrimitiveType, SemanticType};
 
 /// The groups of records that can be children.
 #[derive(Clone, Copy, PartialEq, Eq, Debug)]
@@ -114,13 +114,9 @@ pub struct Row {
 
 /// Each kind, with its word and the words of its subs.
 const KINDS: &[(u8, &str, &[&str])] = &[
-    (
-        1,
-        "primitive",
-        &["bool", "u8", "u16", "u32", "u64", "i8", "i16", "i32", "i64", "f32", "f64", "fixed32", "fixed64", "void"],
-    ),
+    (1, "primitive", PrimitiveType::WORDS),
     (2, "sub-byte", &["unsigned", "signed"]),
-    (3, "semantic", &["string", "bytes", "rgb", "uuid", "timestamp", "hash"]),
+    (3, "semantic", SemanticType::WORDS),
     (4, "named", &[]),
     (5, "qualified", &[]),
     (6, "generic", &[]),
@@ -129,7 +125,7 @@ const KINDS: &[(u8, &str, &[&str])] = &[
     (9, "inline-bits", &[]),
     (10, "literal", &["int", "uint", "float", "hex", "bool"]),
     (11, "reference", &[]),
-    (12, "operation", &["add", "sub", "mul", "div", "eq", "ne", "lt", "le", "gt", "ge"]),
+    (12, "operation", BinOpKind::WORDS),
     (13, "logic", &["and", "or", "not"]),
     (14, "comparison", &["eq", "ne", "lt", "gt", "le", "ge"]),
     (15, "range", &["with-high", "without-high"]),
@@ -144,7 +140,7 @@ const KINDS: &[(u8, &str, &[&str])] = &[
     (31, "field", &[]),
     (32, "tombstone", &["of-body", "of-union"]),
     (33, "variant", &[]),
-    (34, "annotation", &["varint", "zigzag", "delta", "limit", "other"]),
+    (34, "annotation", Annotation::WORDS),
     (35, "argument", &["int", "hex", "other"]),
     (36, "tombstone-argument", &["reason", "since", "other"]),
 ];
