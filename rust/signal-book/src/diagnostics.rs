@@ -8,6 +8,22 @@ use std::fmt;
 pub const MOST_DIAGNOSTICS: usize = 256;
 
 /// The diagnostics of an accepted book, in the order in which they were met.
+///
+/// ```
+/// use signal_book::{lower, BookBuilder, Name, Told, DIAGNOSTICS_LIMIT, RESULTS_LIMIT};
+///
+/// let [cabin, door] = [1, 2].map(|number| Name::new(number).unwrap());
+/// let mut book = BookBuilder::new();
+/// let ty = book.named(door, (16, 4));
+/// book.newtype(cabin, ty, (0, 20));
+///
+/// let (mut results, mut diagnostics) = (vec![0; RESULTS_LIMIT], vec![0; DIAGNOSTICS_LIMIT]);
+/// let lowered = lower(&book.finish()?, &mut results, &mut diagnostics)?;
+/// let diagnostic = lowered.diagnostics().iter().next().unwrap();
+/// assert_eq!(diagnostic.told(), Told::Unknown(door));
+/// assert_eq!(format!("{diagnostic:?}"), "UnresolvedType at 16+4: the type N2 is not known");
+/// # Ok::<(), Box<dyn std::error::Error>>(())
+/// ```
 #[derive(Clone, Copy)]
 pub struct Diagnostics<'a> {
     bytes: &'a [u8],

@@ -33,6 +33,28 @@ impl fmt::Display for TypeId {
 }
 
 /// The result records of an accepted book, in a lent slice or in a copy of it.
+///
+/// ```
+/// use signal_book::{lower, FieldConstraint, Results, RESULTS_LIMIT};
+///
+/// # let path = concat!(env!("CARGO_MANIFEST_DIR"), "/../../books/wind.book");
+/// let book = std::fs::read(path)?;
+/// let mut slice = vec![0; RESULTS_LIMIT];
+/// let kept = lower(&book, &mut slice, &mut [])?.results().bytes().to_vec();
+///
+/// // Seasons later.
+/// let results = Results::new(&kept).unwrap();
+/// let wind = results.messages().next().unwrap();
+/// let direction = wind.fields().nth(1).unwrap();
+/// assert_eq!(format!("{direction:?}"), "Field { name: N22, ordinal: 1, ty: u16, \
+///     constraint: Some(0 <= value < N25), encoding: default, span: 280+19 }");
+/// let exclusive = matches!(
+///     direction.constraint().unwrap().constraint(),
+///     FieldConstraint::Range { exclusive_high: true, .. }
+/// );
+/// assert!(exclusive);
+/// # Ok::<(), Box<dyn std::error::Error>>(())
+/// ```
 #[derive(Clone, Copy)]
 pub struct Results<'a> {
     bytes: &'a [u8],
