@@ -305,6 +305,14 @@ fn dump_prints_the_records() {
     let out = "   2: constant N1 expression=6@100+1 type=u8@110+2 @120+3\n   \
         7: constant N2 expression=(operation mul N1@130+4 7@140+5 @150+6) type=u8@160+7 @170+8\n";
     assert_eq!(said, Said { status: 0, out: out.to_string(), err: String::new() });
+    let said = run(&path("books"), &["dump", "log.book"]);
+    let out = "   0: message N50 @100+1
+   1:   annotation delta @110+2
+   3:   field N51 type=u16@120+3 ordinal=0 @130+4
+   4:     annotation zigzag @140+5
+   6:   field N52 type=u32@150+6 ordinal=1 @160+7
+   8:   field N53 type=bool@170+8 ordinal=2 @180+9\n";
+    assert_eq!(said.out, out);
 }
 
 /// What a text builds, as bytes.
@@ -445,9 +453,11 @@ fn wrong_texts_are_told_by_line() {
     }
     let said = Said::of(piped(&["build", "-"], "message N1\n".repeat(1345).as_bytes()));
     assert_eq!(said.err, "signal-book: -: a book has at most 1344 records, and this has 1345\n");
-    let said =
-        Said::of(piped(&["build", "-"], format!("newtype N1 type={}", "(one-child set ".repeat(2000)).as_bytes()));
-    assert_eq!(said.err, "signal-book: -: line 1: there are more brackets than a book has records\n");
+    let nested = |count: usize| format!("newtype N1 type={}u8{}", "(one-child set ".repeat(count), ")".repeat(count));
+    let said = Said::of(piped(&["build", "-"], nested(2000).as_bytes()));
+    assert_eq!(said.err, "signal-book: -: a book has at most 1344 records, and this has 2002\n");
+    let said = Said::of(piped(&["build", "-"], nested(100_000).as_bytes()));
+    assert_eq!(said.err, "signal-book: -: line 1: a book has at most 1344 records, and this has 65536\n");
 }
 
 /// The page of a text, without its first line.
@@ -482,6 +492,7 @@ union N10
 newtype N14 type=(two-children result (generic N3 u8) (qualified N15 N16))
 newtype N17 type=(one-child vec3 f32)
 newtype N18 type=N99@6+7
+newtype N19 type=N3
 ";
 
 const ALL_FORMS_PAGE: &str = "
@@ -514,6 +525,8 @@ newtype N17 of vec3<f32>: 12 bytes
 
 newtype N18 of poison
 
+newtype N19 of N3
+
 diagnostics
   at 4+5  the constant N6 has no value
   at 0+0  the type N15.N16 is not known
@@ -543,6 +556,10 @@ fn layouts() {
         ("field N2 type=N9 ordinal=0", "no fixed layout, as the type of N2 tells no number of bytes"),
         (
             "field N2 type=(one-child fixed-array (one-child fixed-array u16 size=18446744073709551615) size=2) ordinal=0",
+            "no fixed layout, as the type of N2 tells no number of bytes",
+        ),
+        (
+            "field N2 type=(one-child fixed-array (one-child fixed-array u8 size=9223372036854775808) size=2) ordinal=0",
             "no fixed layout, as the type of N2 tells no number of bytes",
         ),
         (

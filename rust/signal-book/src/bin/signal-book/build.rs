@@ -2,11 +2,8 @@
 
 use crate::names::{plain, Names};
 use crate::rows::{kind, leaf, row, Group, Holds, Letter, Row, Slot, LETTERS};
-use signal_book::{BookBuilder, Fields, Span, BLOCKS, NONE, PLACES};
+use signal_book::{BookBuilder, Fields, Span, WrongLength, NONE};
 use std::collections::HashMap;
-
-/// How deep records can stand inside each other: no book has more records.
-const DEEPEST: usize = BLOCKS * PLACES;
 
 /// The book that a text says, or what is wrong with it, with the number of the line.
 pub fn build(text: &str) -> Result<Vec<u8>, String> {
@@ -48,115 +45,105 @@ impl Building {
                 Ok(())
             }
             ["wildcards", ..] => Err("`wildcards` stands alone on a line, before all records".into()),
-            _ => {
-                let mut rest = &tokens[..];
-                self.record(&mut rest, 0)?;
-                match rest {
-                    [] => Ok(()),
-                    [token, ..] => Err(format!("`{token}` is one too many")),
-                }
-            }
+            _ => self.record(&tokens),
         }
     }
 
-    /// Reads a record up to the end or to a closing bracket, writes it behind its children, and gives its number.
-    fn record(&mut self, tokens: &mut &[&str], depth: usize) -> Result<usize, String> {
-        if depth > DEEPEST {
-            return Err("there are more brackets than a book has records".into());
+    /// Reads a record and those inside it. Each is written when it ends, so behind its children.
+    fn record(&mut self, mut tokens: &[&str]) -> Result<(), String> {
+        let mut open = vec![Reading::head(&mut tokens, None)?];
+        while let Some(reading) = open.last_mut().filter(|_| !tokens.is_empty()) {
+            let token = next(&mut tokens);
+            if token == ")" {
+                self.close(&mut open)?;
+            } else if let Some(letter) = self.part(reading, token, &mut tokens)? {
+                open.push(Reading::head(&mut tokens, Some(letter))?);
+            }
         }
-        let label = tokens.first().and_then(|token| token.strip_suffix(':'));
-        if label.is_some() {
-            next(tokens);
+        match open.pop() {
+            Some(reading) if open.is_empty() => self.write(reading).map(|_| ()),
+            _ => Err("a bracket is not closed".into()),
         }
-        let mut reading = Reading::head(tokens)?;
-        while let Some(token) = tokens.first().copied().filter(|token| *token != ")") {
-            next(tokens);
-            self.part(&mut reading, token, tokens, depth)?;
+    }
+
+    /// Ends a record in brackets: its number goes into the field of the one around it.
+    fn close(&mut self, open: &mut Vec<Reading>) -> Result<(), String> {
+        match (open.pop(), open.last_mut()) {
+            (Some(ended @ Reading { inside: Some(letter), .. }), Some(around)) => {
+                around.set(letter, self.write(ended)? as u64)
+            }
+            _ => Err("`)` is one too many".into()),
         }
+    }
+
+    /// Writes a record that has ended, and gives its number.
+    fn write(&mut self, mut reading: Reading) -> Result<usize, String> {
         reading.complete()?;
-        let number = self.write(reading);
-        match label {
-            Some(label) if self.labels.insert(label.to_string(), number).is_some() => {
-                Err(format!("the label `{label}` stands twice"))
-            }
-            _ => Ok(number),
-        }
-    }
-
-    fn write(&mut self, reading: Reading) -> usize {
-        let (line, record) = (self.line, self.records.len());
+        let (line, record) = (self.line, self.push(reading.fields)?);
         let references = reading.references.into_iter();
         self.references.extend(references.map(|(letter, label)| Reference { line, record, letter, label }));
-        self.records.push(reading.fields);
-        record
+        match reading.label {
+            Some(label) if self.labels.contains_key(&label) => Err(format!("the label `{label}` stands twice")),
+            Some(label) => {
+                self.labels.insert(label, record);
+                Ok(record)
+            }
+            None => Ok(record),
+        }
     }
 
-    /// Reads what is behind the head of a record: a span, a field by its word or letter, or one without a word.
-    fn part(&mut self, reading: &mut Reading, token: &str, tokens: &mut &[&str], depth: usize) -> Result<(), String> {
+    /// Reads what is behind the head of a record: a span, a field by its word or letter, or one without a word. Where a
+    /// bracket begins, this gives the field that the record in it is for.
+    fn part(&mut self, reading: &mut Reading, token: &str, tokens: &mut &[&str]) -> Result<Option<Letter>, String> {
         if let Some(span) = token.strip_prefix('@') {
             reading.fields.span = span_of(span)?;
-            return Ok(());
+            return Ok(None);
         }
         let Some((word, value)) = token.split_once('=') else {
             let slot = reading.next_bare().ok_or_else(|| format!("`{token}` is one too many"))?;
-            return self.field(reading, slot, token, tokens, depth);
+            return self.field(reading, slot, token);
         };
         if let Some(slot) = reading.slot(word) {
-            let value = if value.is_empty() { next(tokens) } else { value };
-            return self.field(reading, slot, value, tokens, depth);
+            return self.field(reading, slot, if value.is_empty() { next(tokens) } else { value });
         }
         let letter = LETTERS.into_iter().find(|letter| letter.word() == word);
         let letter = letter.ok_or_else(|| format!("`{}` has no field `{word}`", reading.word()))?;
-        reading.set(letter, number(value)?)
+        reading.set(letter, number(value)?)?;
+        Ok(None)
     }
 
-    fn field(
-        &mut self,
-        reading: &mut Reading,
-        slot: Slot,
-        token: &str,
-        tokens: &mut &[&str],
-        depth: usize,
-    ) -> Result<(), String> {
+    fn field(&mut self, reading: &mut Reading, slot: Slot, token: &str) -> Result<Option<Letter>, String> {
         let value = match slot.holds.child() {
+            Some(_) if token == "(" => return Ok(Some(slot.letter)),
             Some(group) if slot.holds.default().is_none() || token != "none" => {
-                match self.child(reading, slot.letter, group, token, tokens, depth)? {
-                    Some(number) => number as u64,
-                    None => return Ok(()),
-                }
+                self.child(reading, slot.letter, group, token)?
             }
             _ => value_of(slot.holds, token, &self.names)?,
         };
-        reading.set(slot.letter, value)
+        reading.set(slot.letter, value)?;
+        Ok(None)
     }
 
-    /// Reads a child: a label, of which the number comes at the end; a record in brackets; or one word.
-    fn child(
-        &mut self,
-        reading: &mut Reading,
-        letter: Letter,
-        group: Group,
-        token: &str,
-        tokens: &mut &[&str],
-        depth: usize,
-    ) -> Result<Option<usize>, String> {
+    /// Reads a child that is a label, of which the number comes at the end, or one word.
+    fn child(&mut self, reading: &mut Reading, letter: Letter, group: Group, token: &str) -> Result<u64, String> {
         if let Some(label) = token.strip_prefix('^') {
-            reading.set(letter, 0)?;
             reading.references.push((letter, label.to_string()));
-            return Ok(None);
-        }
-        if token == "(" {
-            let number = self.record(tokens, depth + 1)?;
-            return match next(tokens) {
-                ")" => Ok(Some(number)),
-                _ => Err("a bracket is not closed".into()),
-            };
+            return Ok(0);
         }
         let (word, span) = token.split_once('@').unwrap_or((token, "0+0"));
         let mut fields = self.short(group, word).ok_or_else(|| format!("`{word}` is no {}", called(group)))?;
         fields.span = span_of(span)?;
+        self.push(fields).map(|number| number as u64)
+    }
+
+    /// Puts a record behind all others, and gives its number. A book that has more than there are numbers is told here, every
+    /// other one that is too long at the end.
+    fn push(&mut self, fields: Fields) -> Result<usize, String> {
         self.records.push(fields);
-        Ok(Some(self.records.len() - 1))
+        match self.records.len() {
+            count if count > usize::from(NONE) => Err(WrongLength(count).to_string()),
+            count => Ok(count - 1),
+        }
     }
 
     /// The record that one word stands for where a group is wanted.
@@ -199,8 +186,10 @@ impl Building {
     }
 }
 
-/// A record that is being read.
+/// A record that is being read; if it stands in brackets, with the field of the one around it that it is for.
 struct Reading {
+    inside: Option<Letter>,
+    label: Option<String>,
     row: Option<Row>,
     fields: Fields,
     given: Vec<Letter>,
@@ -208,8 +197,12 @@ struct Reading {
 }
 
 impl Reading {
-    /// Reads the words that say what the record is.
-    fn head(tokens: &mut &[&str]) -> Result<Reading, String> {
+    /// Reads the label and the words that say what the record is.
+    fn head(tokens: &mut &[&str], inside: Option<Letter>) -> Result<Reading, String> {
+        let label = tokens.first().and_then(|token| token.strip_suffix(':')).map(String::from);
+        if label.is_some() {
+            next(tokens);
+        }
         let word = next(tokens);
         let (kind, sub, row) = if word == "record" {
             (numbered(next(tokens), "kind")?, numbered(next(tokens), "sub")?, None)
@@ -219,7 +212,7 @@ impl Reading {
             (kind, sub, row(kind, sub))
         };
         let fields = Fields { kind, sub, ..Fields::default() };
-        Ok(Reading { row, fields, given: Vec::new(), references: Vec::new() })
+        Ok(Reading { inside, label, row, fields, given: Vec::new(), references: Vec::new() })
     }
 
     fn word(&self) -> &'static str {

@@ -41,6 +41,7 @@ impl Numbers {
             |slot: char| row(kind, sub).is_some_and(|row| row.slots.iter().any(|s| s.letter.word().starts_with(slot)));
         let mut field = |letter: char| if used(letter) || self.below(20) == 0 { self.field(records) } else { 0 };
         let (a, b, c) = (field('a'), field('b'), field('c'));
+        let (a, b, c) = if self.below(2) == 0 { self.just_before(kind, sub, records, [a, b, c]) } else { (a, b, c) };
         let v = match self.below(4) {
             0 => [1, 2, 1 << 63, u64::MAX, u64::MAX >> 1, 0x7FF8_0000_0000_0001, 0x7FF0_0000_0000_0000, 1 << 32]
                 [self.below(8)],
@@ -49,6 +50,19 @@ impl Numbers {
         };
         let span = if self.below(2) == 0 { Span::NONE } else { (self.next() as u32, self.below(9) as u32).into() };
         Fields { kind, sub, a, b, c, v, span }
+    }
+
+    /// The fields with the records right before as children, in their order or in another.
+    fn just_before(&mut self, kind: u8, sub: u8, records: usize, [a, b, c]: [u16; 3]) -> (u16, u16, u16) {
+        let mut fields = Fields { a, b, c, ..Fields::default() };
+        let slots = row(kind, sub).map_or(&[][..], |row| row.slots);
+        let children: Vec<&Slot> = slots.iter().filter(|slot| slot.holds.child().is_some()).collect();
+        let turn = self.below(2);
+        for (place, slot) in children.iter().enumerate() {
+            let behind = if turn == 0 { children.len() - place } else { place + 1 };
+            slot.letter.set(&mut fields, records.saturating_sub(behind) as u64);
+        }
+        (fields.a, fields.b, fields.c)
     }
 
     fn book(&mut self) -> Vec<u8> {
@@ -75,6 +89,19 @@ fn books_of_any_records_come_back_from_their_text() {
             assert_eq!(build(&text).as_ref(), Ok(&book), "{turn}:\n{text}");
         }
     }
+}
+
+/// As deep as a book can be: a chain of all its records.
+#[test]
+fn the_deepest_book_comes_back_from_its_text() {
+    let mut builder = BookBuilder::new();
+    builder.record(Fields { kind: 1, ..Fields::default() });
+    for inner in 0..1343 {
+        builder.record(Fields { kind: 7, a: inner, ..Fields::default() });
+    }
+    let book = builder.finish().unwrap();
+    let text = dump(&book, &Names::default());
+    assert_eq!((text.lines().count(), build(&text)), (1, Ok(book)));
 }
 
 /// What any text builds has a text that builds the same.
@@ -167,4 +194,21 @@ fn the_paper_has_the_words() {
     let held: Vec<&str> =
         paper.lines().filter(|line| line.starts_with("| ") && line.as_bytes()[2].is_ascii_digit()).collect();
     assert_eq!(held, table());
+}
+
+/// `tools/book` has the same words: a line for each kind, `KIND: ("WORD", "SUB SUB ..", ..),`.
+#[test]
+fn the_other_tool_has_the_same_words() {
+    let path = concat!(env!("CARGO_MANIFEST_DIR"), "/../../tools/book");
+    let tool = std::fs::read_to_string(path).unwrap();
+    let table = tool.split("\nKINDS = {\n").nth(1).unwrap().split("\n}").next().unwrap();
+    let mut kinds: Vec<u8> = Vec::new();
+    for line in table.lines() {
+        let (kind, words) = line.trim().split_once(": ").unwrap();
+        let words: Vec<&str> = words.split('"').collect();
+        let (word, subs) = (words[1], words[3].split_whitespace().collect::<Vec<&str>>());
+        assert_eq!(crate::rows::kind(word), Some((kind.parse().unwrap(), &subs[..])), "{line}");
+        kinds.push(kind.parse().unwrap());
+    }
+    assert_eq!(kinds, (0..=255).filter(|kind| row(*kind, 0).is_some()).collect::<Vec<u8>>());
 }
