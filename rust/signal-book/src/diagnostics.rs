@@ -43,7 +43,8 @@ impl<'a> Diagnostics<'a> {
     pub fn new(bytes: &'a [u8]) -> Option<Diagnostics<'a>> {
         let diagnostics = Diagnostics { bytes };
         let whole = bytes.chunks_exact(RECORD).remainder().is_empty() && diagnostics.len() <= MOST_DIAGNOSTICS;
-        let form = |record: Record| record.kind() == 50 && record.sub() <= 5 && record.v() <= 2;
+        let names = |record: Record| [record.a(), record.b()].into_iter().all(|name| Name::new(name).is_some());
+        let form = |record: Record| record.kind() == 50 && record.sub() <= 5 && names(record) && record.v() <= 2;
         (whole && diagnostics.records().all(form)).then_some(diagnostics)
     }
 

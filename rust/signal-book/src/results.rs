@@ -4,9 +4,16 @@ use crate::record::{debug_as_display, Name, Record, Span, Text, NONE, RECORD};
 use crate::words::{CmpOp, Encoding, PrimitiveType, SemanticType};
 use crate::write::Numbers;
 use std::fmt;
+use std::mem::replace;
+use std::ops::RangeInclusive;
 
 /// How many results there are at most.
 pub const MOST_RESULTS: usize = 2048;
+
+/// The kinds of each group of children.
+const TYPES: RangeInclusive<u8> = 1..=9;
+const CONSTRAINTS: RangeInclusive<u8> = 13..=15;
+const OPERANDS: RangeInclusive<u8> = 16..=16;
 
 /// A type's number in a book: messages, unions and newtypes from 0 in book order, then generic aliases, then types that the
 /// book does not declare, as they were met.
@@ -74,7 +81,8 @@ impl<'a> Results<'a> {
     pub fn new(bytes: &'a [u8]) -> Option<Results<'a>> {
         let results = Results { bytes };
         let whole = bytes.chunks_exact(RECORD).remainder().is_empty() && results.len() <= MOST_RESULTS;
-        (whole && (0..results.len()).all(|number| results.has_form(number))).then_some(results)
+        let mut used = [false; MOST_RESULTS];
+        (whole && (0..results.len()).all(|number| results.has_form(number, &mut used))).then_some(results)
     }
 
     /// The bytes, to keep them.
@@ -145,30 +153,33 @@ impl<'a> Results<'a> {
         all.filter(move |at| at.kind() == kind)
     }
 
-    /// Whether a record has the values that the views count on.
-    fn has_form(self, number: usize) -> bool {
+    /// Whether a record has the values that the views count on. Its children are noted as used: no record has two parents, or
+    /// a tree could be longer than all records, out of all bounds.
+    fn has_form(self, number: usize, used: &mut [bool; MOST_RESULTS]) -> bool {
         let at = At { results: self, number };
         let record = at.record();
-        let ty = |child: u16| at.has_child(child, 1..=9);
-        let constraint = |child: u16| at.has_child(child, 13..=15);
-        let operand = |child: u16| at.has_child(child, 16..=16);
+        let mut child = |child: u16, kinds| at.has_child(child, kinds) && !replace(&mut used[usize::from(child)], true);
         let encoded = || self.record(number + 1).is_some_and(|next| next.kind() == 46);
         let ordinal = u32::try_from(record.v()).is_ok();
+        let (a, b, c) = (record.a(), record.b(), record.c());
+        let name = Name::new(a).is_some();
         match (record.kind(), record.sub()) {
-            (1, 0..=13) | (2, 0..=1) | (3, 0..=5) | (9, 0) => true,
+            (1, 0..=13) | (3, 0..=5) | (9, 0) => true,
+            (2, 0..=1) => u8::try_from(a).is_ok(),
             (4, 0) => ordinal,
-            (7, 0..=9) => ty(record.a()),
-            (8, 0..=1) => ty(record.a()) && ty(record.b()),
-            (13, 0..=1) => constraint(record.a()) && constraint(record.b()),
-            (13, 2) => constraint(record.a()),
-            (14, 0..=5) => operand(record.a()),
-            (15, 0..=1) => operand(record.a()) && operand(record.b()),
-            (16, 0..=3 | 5) | (46, 0..=2) => true,
-            (40 | 48, 0) | (41, 0..=1) => ty(record.b()),
-            (42 | 43, 0) => true,
-            (44, 0) => ordinal,
-            (45, 0) => ty(record.b()) && (record.c() == NONE || constraint(record.c())) && ordinal && encoded(),
-            (47, 0..=1) => (record.c() == NONE || ty(record.c())) && ordinal,
+            (7, 0..=9) => child(a, TYPES),
+            (8, 0..=1) => child(a, TYPES) && child(b, TYPES),
+            (13, 0..=1) => child(a, CONSTRAINTS) && child(b, CONSTRAINTS),
+            (13, 2) => child(a, CONSTRAINTS),
+            (14, 0..=5) => child(a, OPERANDS),
+            (15, 0..=1) => child(a, OPERANDS) && child(b, OPERANDS),
+            (16, 0 | 1 | 3) | (46, 0..=2) => true,
+            (16, 2) => Text::new(a).is_some(),
+            (16, 5) | (42 | 43, 0) => name,
+            (40 | 48, 0) | (41, 0..=1) => name && child(b, TYPES),
+            (44, 0) => name && ordinal,
+            (45, 0) => name && child(b, TYPES) && (c == NONE || child(c, CONSTRAINTS)) && ordinal && encoded(),
+            (47, 0..=1) => (c == NONE || child(c, TYPES)) && ordinal,
             _ => false,
         }
     }
@@ -216,7 +227,7 @@ impl<'a> At<'a> {
         Type(self.child(number))
     }
 
-    fn has_child(self, child: u16, kinds: std::ops::RangeInclusive<u8>) -> bool {
+    fn has_child(self, child: u16, kinds: RangeInclusive<u8>) -> bool {
         usize::from(child) < self.number && kinds.contains(&self.child(child).kind())
     }
 

@@ -61,20 +61,37 @@ macro_rules! in_words {
 
 in_words! { Type Constraint Diagnostic }
 
+/// What is still to be printed of a tree.
+enum Rest<T> {
+    Word(&'static str),
+    Part(T),
+}
+
+/// Prints a tree, however deep it is: what is still to be printed is kept in a list, last first, and not on the stack. `open`
+/// prints the front of a part, and adds what follows it.
+fn print<T>(
+    f: &mut fmt::Formatter,
+    root: T,
+    open: impl Fn(&mut fmt::Formatter, T, &mut Vec<Rest<T>>) -> fmt::Result,
+) -> fmt::Result {
+    let mut rest = vec![Rest::Part(root)];
+    while let Some(next) = rest.pop() {
+        match next {
+            Rest::Word(word) => f.write_str(word)?,
+            Rest::Part(part) => open(f, part, &mut rest)?,
+        }
+    }
+    Ok(())
+}
+
+/// Two parts, with a word between them and one behind.
+fn two<T>(left: T, between: &'static str, right: T, behind: &'static str) -> [Rest<T>; 4] {
+    [Rest::Word(behind), Rest::Part(right), Rest::Word(between), Rest::Part(left)]
+}
+
 impl fmt::Display for InWords<'_, Type<'_>> {
     fn fmt(&self, f: &mut fmt::Formatter) -> fmt::Result {
-        // Types of one part are opened in a loop: there can be many, one inside the other.
-        let (mut ty, mut open) = (self.view.resolved(), 0);
-        while let Some((word, inner)) = of_one(ty) {
-            f.write_str(word)?;
-            if let ResolvedType::FixedArray(_, size) = ty {
-                write!(f, "[{size}]")?;
-            }
-            f.write_str("<")?;
-            (ty, open) = (inner.resolved(), open + 1);
-        }
-        self.rest(f, ty)?;
-        (0..open).try_for_each(|_| f.write_str(">"))
+        print(f, self.view, |f, ty, rest| self.open(f, ty.resolved(), rest))
     }
 }
 
@@ -95,33 +112,58 @@ fn of_one(ty: ResolvedType) -> Option<(&'static str, Type)> {
     }
 }
 
-impl InWords<'_, Type<'_>> {
-    /// A type that is not made of one other.
-    fn rest(&self, f: &mut fmt::Formatter, ty: ResolvedType) -> fmt::Result {
+impl<'a> InWords<'_, Type<'a>> {
+    fn open(&self, f: &mut fmt::Formatter, ty: ResolvedType<'a>, rest: &mut Vec<Rest<Type<'a>>>) -> fmt::Result {
+        if let Some((word, inner)) = of_one(ty) {
+            rest.extend([Rest::Word(">"), Rest::Part(inner)]);
+            f.write_str(word)?;
+        }
         match ty {
             ResolvedType::Primitive(primitive) => write!(f, "{primitive}"),
             ResolvedType::SubByte { signed, bits } => write!(f, "{}{bits}-bit", if signed { "signed " } else { "" }),
             ResolvedType::Semantic(semantic) => write!(f, "{semantic}"),
             ResolvedType::Named(id) => f.write_str(&self.words.type_id(id)),
-            ResolvedType::Map(key, value) => write!(f, "map<{}, {}>", self.part(key), self.part(value)),
-            ResolvedType::Result(ok, err) => write!(f, "result<{}, {}>", self.part(ok), self.part(err)),
             ResolvedType::BitsInline(list) => write!(f, "bits of list {list}"),
-            _ => Ok(()),
+            ResolvedType::FixedArray(_, size) => write!(f, "[{size}]<"),
+            ResolvedType::Map(key, value) => {
+                rest.extend(two(key, ", ", value, ">"));
+                f.write_str("map<")
+            }
+            ResolvedType::Result(ok, err) => {
+                rest.extend(two(ok, ", ", err, ">"));
+                f.write_str("result<")
+            }
+            _ => f.write_str("<"),
         }
-    }
-
-    fn part<'a>(&self, ty: Type<'a>) -> InWords<'_, Type<'a>> {
-        ty.in_words(self.words)
     }
 }
 
 impl fmt::Display for InWords<'_, Constraint<'_>> {
     fn fmt(&self, f: &mut fmt::Formatter) -> fmt::Result {
-        let part = |constraint: Constraint| constraint.in_words(self.words).to_string();
-        match self.view.constraint() {
-            FieldConstraint::And(left, right) => write!(f, "({} and {})", part(left), part(right)),
-            FieldConstraint::Or(left, right) => write!(f, "({} or {})", part(left), part(right)),
-            FieldConstraint::Not(inner) => write!(f, "not {}", part(inner)),
+        print(f, self.view, |f, constraint, rest| self.open(f, constraint.constraint(), rest))
+    }
+}
+
+impl<'a> InWords<'_, Constraint<'a>> {
+    fn open(
+        &self,
+        f: &mut fmt::Formatter,
+        constraint: FieldConstraint<'a>,
+        rest: &mut Vec<Rest<Constraint<'a>>>,
+    ) -> fmt::Result {
+        match constraint {
+            FieldConstraint::And(left, right) => {
+                rest.extend(two(left, " and ", right, ")"));
+                f.write_str("(")
+            }
+            FieldConstraint::Or(left, right) => {
+                rest.extend(two(left, " or ", right, ")"));
+                f.write_str("(")
+            }
+            FieldConstraint::Not(inner) => {
+                rest.push(Rest::Part(inner));
+                f.write_str("not ")
+            }
             FieldConstraint::Cmp { op, operand } => write!(f, "value {op} {}", self.operand(operand)),
             FieldConstraint::LenCmp { op, operand } => write!(f, "length {op} {}", self.operand(operand)),
             FieldConstraint::Range { low, high, exclusive_high } => self.range(f, "value", low, high, exclusive_high),
@@ -130,9 +172,7 @@ impl fmt::Display for InWords<'_, Constraint<'_>> {
             }
         }
     }
-}
 
-impl InWords<'_, Constraint<'_>> {
     fn operand(&self, operand: ConstraintOperand) -> String {
         match operand {
             ConstraintOperand::Int(value) => value.to_string(),
