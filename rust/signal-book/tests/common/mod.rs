@@ -1,8 +1,9 @@
-//! The list of answers (`docs/ANSWERS.md`), the sample books, and records in plain fields. All of it is read and written
-//! here without the code of the crate, which is what the tests are about.
+//! The list of answers (`docs/ANSWERS.md`), the sample books, and records in plain fields. What is in this file reads and
+//! writes bytes by itself: the code of the crate is what the tests are about.
 
 #![allow(dead_code)]
 
+pub mod made;
 pub mod tables;
 
 use std::fs;
