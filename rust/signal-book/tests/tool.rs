@@ -323,64 +323,65 @@ fn built(text: &str) -> Vec<u8> {
 }
 
 /// A record on a line: the text, and the fields it must have.
+const FORMS: [(&str, [u64; 8]); 53] = [
+    ("primitive bool", [1, 0, 0, 0, 0, 0, 0, 0]),
+    ("primitive void @3+4", [1, 13, 0, 0, 0, 0, 3, 4]),
+    ("sub-byte signed 5", [2, 1, 5, 0, 0, 0, 0, 0]),
+    ("semantic hash", [3, 5, 0, 0, 0, 0, 0, 0]),
+    ("named N17", [4, 0, 17, 0, 0, 0, 0, 0]),
+    ("qualified N17 N18", [5, 0, 17, 18, 0, 0, 0, 0]),
+    ("generic N17 ^x", [6, 0, 17, 0, 0, 0, 0, 0]),
+    ("one-child optional ^x", [7, 0, 0, 0, 0, 0, 0, 0]),
+    ("one-child fixed-array ^x size=18446744073709551615", [7, 2, 0, 0, 0, u64::MAX, 0, 0]),
+    ("one-child mat4 ^y", [7, 9, 1, 0, 0, 0, 0, 0]),
+    ("two-children map ^x ^y", [8, 0, 0, 1, 0, 0, 0, 0]),
+    ("two-children result ^y ^x", [8, 1, 1, 0, 0, 0, 0, 0]),
+    ("inline-bits 65535", [9, 0, 65535, 0, 0, 0, 0, 0]),
+    ("literal int -1", [10, 0, 0, 0, 0, u64::MAX, 0, 0]),
+    ("literal uint 18446744073709551615", [10, 1, 0, 0, 0, u64::MAX, 0, 0]),
+    ("literal float 1.5", [10, 2, 0, 0, 0, 0x3FF8_0000_0000_0000, 0, 0]),
+    ("literal float 0x7ff8000000000001", [10, 2, 0, 0, 0, 0x7FF8_0000_0000_0001, 0, 0]),
+    ("literal hex 0xff", [10, 3, 0, 0, 0, 255, 0, 0]),
+    ("literal bool true", [10, 4, 0, 0, 0, 1, 0, 0]),
+    ("literal bool false", [10, 4, 0, 0, 0, 0, 0, 0]),
+    ("literal bool 2", [10, 4, 0, 0, 0, 2, 0, 0]),
+    ("reference N4095", [11, 0, 4095, 0, 0, 0, 0, 0]),
+    ("operation ge ^y ^x", [12, 9, 1, 0, 0, 0, 0, 0]),
+    ("logic or ^x ^y", [13, 1, 0, 1, 0, 0, 0, 0]),
+    ("logic not ^y", [13, 2, 1, 0, 0, 0, 0, 0]),
+    ("comparison ge ^y length=1", [14, 5, 1, 0, 1, 0, 0, 0]),
+    ("comparison lt ^y", [14, 2, 1, 0, 0, 0, 0, 0]),
+    ("range with-high ^x ^y length=1", [15, 0, 0, 1, 1, 0, 0, 0]),
+    ("operand int -9223372036854775808", [16, 0, 0, 0, 0, 1 << 63, 0, 0]),
+    ("operand float -0.0", [16, 1, 0, 0, 0, 1 << 63, 0, 0]),
+    ("operand string S65534", [16, 2, 65534, 0, 0, 0, 0, 0]),
+    ("operand bool true", [16, 3, 0, 0, 0, 1, 0, 0]),
+    ("operand value value=3", [16, 4, 0, 0, 0, 3, 0, 0]),
+    ("operand reference N9", [16, 5, 9, 0, 0, 0, 0, 0]),
+    ("message N9", [20, 0, 9, 0, 0, 0, 0, 0]),
+    ("union N9", [21, 0, 9, 0, 0, 0, 0, 0]),
+    ("newtype N9 type=^y", [22, 0, 9, 1, 0, 0, 0, 0]),
+    ("alias N9 target=^y", [23, 0, 9, 1, 0, 0, 0, 0]),
+    ("constant N9 type=^x expression=^y", [24, 0, 9, 0, 1, 0, 0, 0]),
+    ("ambiguous N9", [25, 0, 9, 0, 0, 0, 0, 0]),
+    ("parameter N9", [30, 0, 9, 0, 0, 0, 0, 0]),
+    ("field N9 ordinal=7 constraint=none type=^y", [31, 0, 9, 1, 65535, 7, 0, 0]),
+    ("field N9 type=^x constraint=^y ordinal=0", [31, 0, 9, 0, 1, 0, 0, 0]),
+    ("tombstone of-union ordinal=4294967295", [32, 1, 0, 0, 65535, 4294967295, 0, 0]),
+    ("tombstone of-body type=^y ordinal=1", [32, 0, 0, 0, 1, 1, 0, 0]),
+    ("variant N9 ordinal=3", [33, 0, 9, 0, 0, 3, 0, 0]),
+    ("annotation limit", [34, 3, 0, 0, 0, 0, 0, 0]),
+    ("argument hex 0x10 key=N3", [35, 1, 3, 0, 0, 16, 0, 0]),
+    ("argument other", [35, 2, 65535, 0, 0, 0, 0, 0]),
+    ("tombstone-argument since string=S3", [36, 1, 3, 0, 0, 0, 0, 0]),
+    ("tombstone-argument other", [36, 2, 65535, 0, 0, 0, 0, 0]),
+    ("field N9 b=900 c=901 ordinal=0", [31, 0, 9, 900, 901, 0, 0, 0]),
+    ("record kind=255 sub=254 v=1 c=2 b=3 a=4 @5+6", [255, 254, 4, 3, 2, 1, 5, 6]),
+];
+
 #[test]
 fn each_form_of_a_record() {
-    let forms: [(&str, [u64; 8]); 53] = [
-        ("primitive bool", [1, 0, 0, 0, 0, 0, 0, 0]),
-        ("primitive void @3+4", [1, 13, 0, 0, 0, 0, 3, 4]),
-        ("sub-byte signed 5", [2, 1, 5, 0, 0, 0, 0, 0]),
-        ("semantic hash", [3, 5, 0, 0, 0, 0, 0, 0]),
-        ("named N17", [4, 0, 17, 0, 0, 0, 0, 0]),
-        ("qualified N17 N18", [5, 0, 17, 18, 0, 0, 0, 0]),
-        ("generic N17 ^x", [6, 0, 17, 0, 0, 0, 0, 0]),
-        ("one-child optional ^x", [7, 0, 0, 0, 0, 0, 0, 0]),
-        ("one-child fixed-array ^x size=18446744073709551615", [7, 2, 0, 0, 0, u64::MAX, 0, 0]),
-        ("one-child mat4 ^y", [7, 9, 1, 0, 0, 0, 0, 0]),
-        ("two-children map ^x ^y", [8, 0, 0, 1, 0, 0, 0, 0]),
-        ("two-children result ^y ^x", [8, 1, 1, 0, 0, 0, 0, 0]),
-        ("inline-bits 65535", [9, 0, 65535, 0, 0, 0, 0, 0]),
-        ("literal int -1", [10, 0, 0, 0, 0, u64::MAX, 0, 0]),
-        ("literal uint 18446744073709551615", [10, 1, 0, 0, 0, u64::MAX, 0, 0]),
-        ("literal float 1.5", [10, 2, 0, 0, 0, 0x3FF8_0000_0000_0000, 0, 0]),
-        ("literal float 0x7ff8000000000001", [10, 2, 0, 0, 0, 0x7FF8_0000_0000_0001, 0, 0]),
-        ("literal hex 0xff", [10, 3, 0, 0, 0, 255, 0, 0]),
-        ("literal bool true", [10, 4, 0, 0, 0, 1, 0, 0]),
-        ("literal bool false", [10, 4, 0, 0, 0, 0, 0, 0]),
-        ("literal bool 2", [10, 4, 0, 0, 0, 2, 0, 0]),
-        ("reference N4095", [11, 0, 4095, 0, 0, 0, 0, 0]),
-        ("operation ge ^y ^x", [12, 9, 1, 0, 0, 0, 0, 0]),
-        ("logic or ^x ^y", [13, 1, 0, 1, 0, 0, 0, 0]),
-        ("logic not ^y", [13, 2, 1, 0, 0, 0, 0, 0]),
-        ("comparison ge ^y length=1", [14, 5, 1, 0, 1, 0, 0, 0]),
-        ("comparison lt ^y", [14, 2, 1, 0, 0, 0, 0, 0]),
-        ("range with-high ^x ^y length=1", [15, 0, 0, 1, 1, 0, 0, 0]),
-        ("operand int -9223372036854775808", [16, 0, 0, 0, 0, 1 << 63, 0, 0]),
-        ("operand float -0.0", [16, 1, 0, 0, 0, 1 << 63, 0, 0]),
-        ("operand string S65534", [16, 2, 65534, 0, 0, 0, 0, 0]),
-        ("operand bool true", [16, 3, 0, 0, 0, 1, 0, 0]),
-        ("operand value value=3", [16, 4, 0, 0, 0, 3, 0, 0]),
-        ("operand reference N9", [16, 5, 9, 0, 0, 0, 0, 0]),
-        ("message N9", [20, 0, 9, 0, 0, 0, 0, 0]),
-        ("union N9", [21, 0, 9, 0, 0, 0, 0, 0]),
-        ("newtype N9 type=^y", [22, 0, 9, 1, 0, 0, 0, 0]),
-        ("alias N9 target=^y", [23, 0, 9, 1, 0, 0, 0, 0]),
-        ("constant N9 type=^x expression=^y", [24, 0, 9, 0, 1, 0, 0, 0]),
-        ("ambiguous N9", [25, 0, 9, 0, 0, 0, 0, 0]),
-        ("parameter N9", [30, 0, 9, 0, 0, 0, 0, 0]),
-        ("field N9 ordinal=7 constraint=none type=^y", [31, 0, 9, 1, 65535, 7, 0, 0]),
-        ("field N9 type=^x constraint=^y ordinal=0", [31, 0, 9, 0, 1, 0, 0, 0]),
-        ("tombstone of-union ordinal=4294967295", [32, 1, 0, 0, 65535, 4294967295, 0, 0]),
-        ("tombstone of-body type=^y ordinal=1", [32, 0, 0, 0, 1, 1, 0, 0]),
-        ("variant N9 ordinal=3", [33, 0, 9, 0, 0, 3, 0, 0]),
-        ("annotation limit", [34, 3, 0, 0, 0, 0, 0, 0]),
-        ("argument hex 0x10 key=N3", [35, 1, 3, 0, 0, 16, 0, 0]),
-        ("argument other", [35, 2, 65535, 0, 0, 0, 0, 0]),
-        ("tombstone-argument since string=S3", [36, 1, 3, 0, 0, 0, 0, 0]),
-        ("tombstone-argument other", [36, 2, 65535, 0, 0, 0, 0, 0]),
-        ("field N9 b=900 c=901 ordinal=0", [31, 0, 9, 900, 901, 0, 0, 0]),
-        ("record kind=255 sub=254 v=1 c=2 b=3 a=4 @5+6", [255, 254, 4, 3, 2, 1, 5, 6]),
-    ];
-    for (text, [kind, sub, a, b, c, v, offset, length]) in forms {
+    for (text, [kind, sub, a, b, c, v, offset, length]) in FORMS {
         let book = built(&format!("x: primitive u8\ny: primitive u8\n{text}"));
         let record = book_records(&book)[2];
         let fields =
@@ -405,49 +406,57 @@ fn records_inside_others_stand_before_them() {
     assert_eq!((records[0].b, records[3].b, records[4].b), (1, 2, 2));
 }
 
+/// Texts that make no book, and what is said of each.
+const WRONG_TEXTS: &[(&str, &str)] = &[
+    ("", "a book has at least one record"),
+    ("# nothing\n\n", "a book has at least one record"),
+    ("message N1\nmesage N2", "line 2: there is no record `mesage`"),
+    (
+        "primitive u7",
+        "line 1: `primitive` is one of: bool, u8, u16, u32, u64, i8, i16, i32, i64, f32, f64, fixed32, fixed64, void",
+    ),
+    (
+        "primitive",
+        "line 1: `primitive` is one of: bool, u8, u16, u32, u64, i8, i16, i32, i64, f32, f64, fixed32, fixed64, void",
+    ),
+    ("message", "line 1: `message` needs its name"),
+    ("constant N1 type=u8", "line 1: `constant` needs its expression"),
+    ("field N1 type=u8", "line 1: `field` needs its ordinal"),
+    ("message N1 N2", "line 1: `N2` is one too many"),
+    ("message N1 )", "line 1: `)` is one too many"),
+    ("message Rope", "line 1: `Rope` is no name"),
+    ("message N65536", "line 1: `N65536` is no name"),
+    ("message N01", "line 1: `N01` is no name"),
+    ("newtype N1 type=foo", "line 1: `foo` is no type"),
+    ("newtype N1 type=", "line 1: `` is no type"),
+    ("newtype N1 type=(primitive u8", "line 1: a bracket is not closed"),
+    ("newtype N1 type=^x", "line 1: no record has the label `x`"),
+    ("x: message N1\nx: message N2", "line 2: the label `x` stands twice"),
+    ("newtype N1 type=u8 b=3", "line 1: a field of `newtype` is given twice"),
+    ("newtype N1 kind=3 type=u8", "line 1: `newtype` has no field `kind`"),
+    ("newtype N1 b=65536", "line 1: 65536 does not fit into 16 bits"),
+    ("newtype N1 b=x", "line 1: `x` is no number"),
+    ("field N1 type=u8 constraint=5 ordinal=0", "line 1: `5` is no constraint"),
+    ("constant N1 type=u8 expression=value", "line 1: `value` is no expression of a constant"),
+    ("comparison le u8", "line 1: `u8` is no operand"),
+    ("literal int 9223372036854775808", "line 1: `9223372036854775808` is no number of 64 bits"),
+    ("literal float x", "line 1: `x` is no number with a fraction"),
+    ("operand string 5", "line 1: `5` is no string, as S5"),
+    ("message N1 @5", "line 1: `@5` is no span: @OFFSET+LENGTH"),
+    ("message N1 @4294967296+0", "line 1: `@4294967296+0` is no span: @OFFSET+LENGTH"),
+    ("message N1\nwildcards", "line 2: `wildcards` stands alone on a line, before all records"),
+    ("name 4096 x", "line 1: the number of a name is 0 to 4095"),
+    ("name 1", "line 1: a name is `name NUMBER WORD`"),
+    ("name 1 u8", "line 1: `u8` is no word for a name: letters, digits and _, and none of this form's own words"),
+    ("name 1 N7", "line 1: `N7` is no word for a name: letters, digits and _, and none of this form's own words"),
+    ("name 1 Rope\nname 1 Wind", "line 2: the name 1 or the word `Wind` is given twice"),
+    ("name 1 Rope\nname 2 Rope", "line 2: the name 2 or the word `Rope` is given twice"),
+    ("record kind=300 sub=0", "line 1: a record by its numbers is `record kind=NUMBER sub=NUMBER` and its fields"),
+];
+
 #[test]
 fn wrong_texts_are_told_by_line() {
-    let wrong = [
-        ("", "a book has at least one record"),
-        ("# nothing\n\n", "a book has at least one record"),
-        ("message N1\nmesage N2", "line 2: there is no record `mesage`"),
-        ("primitive u7", "line 1: `primitive` is one of: bool, u8, u16, u32, u64, i8, i16, i32, i64, f32, f64, fixed32, fixed64, void"),
-        ("primitive", "line 1: `primitive` is one of: bool, u8, u16, u32, u64, i8, i16, i32, i64, f32, f64, fixed32, fixed64, void"),
-        ("message", "line 1: `message` needs its name"),
-        ("constant N1 type=u8", "line 1: `constant` needs its expression"),
-        ("field N1 type=u8", "line 1: `field` needs its ordinal"),
-        ("message N1 N2", "line 1: `N2` is one too many"),
-        ("message N1 )", "line 1: `)` is one too many"),
-        ("message Rope", "line 1: `Rope` is no name"),
-        ("message N65536", "line 1: `N65536` is no name"),
-        ("message N01", "line 1: `N01` is no name"),
-        ("newtype N1 type=foo", "line 1: `foo` is no type"),
-        ("newtype N1 type=", "line 1: `` is no type"),
-        ("newtype N1 type=(primitive u8", "line 1: a bracket is not closed"),
-        ("newtype N1 type=^x", "line 1: no record has the label `x`"),
-        ("x: message N1\nx: message N2", "line 2: the label `x` stands twice"),
-        ("newtype N1 type=u8 b=3", "line 1: a field of `newtype` is given twice"),
-        ("newtype N1 kind=3 type=u8", "line 1: `newtype` has no field `kind`"),
-        ("newtype N1 b=65536", "line 1: 65536 does not fit into 16 bits"),
-        ("newtype N1 b=x", "line 1: `x` is no number"),
-        ("field N1 type=u8 constraint=5 ordinal=0", "line 1: `5` is no constraint"),
-        ("constant N1 type=u8 expression=value", "line 1: `value` is no expression of a constant"),
-        ("comparison le u8", "line 1: `u8` is no operand"),
-        ("literal int 9223372036854775808", "line 1: `9223372036854775808` is no number of 64 bits"),
-        ("literal float x", "line 1: `x` is no number with a fraction"),
-        ("operand string 5", "line 1: `5` is no string, as S5"),
-        ("message N1 @5", "line 1: `@5` is no span: @OFFSET+LENGTH"),
-        ("message N1 @4294967296+0", "line 1: `@4294967296+0` is no span: @OFFSET+LENGTH"),
-        ("message N1\nwildcards", "line 2: `wildcards` stands alone on a line, before all records"),
-        ("name 4096 x", "line 1: the number of a name is 0 to 4095"),
-        ("name 1", "line 1: a name is `name NUMBER WORD`"),
-        ("name 1 u8", "line 1: `u8` is no word for a name: letters, digits and _, and none of this form's own words"),
-        ("name 1 N7", "line 1: `N7` is no word for a name: letters, digits and _, and none of this form's own words"),
-        ("name 1 Rope\nname 1 Wind", "line 2: the name 1 or the word `Wind` is given twice"),
-        ("name 1 Rope\nname 2 Rope", "line 2: the name 2 or the word `Rope` is given twice"),
-        ("record kind=300 sub=0", "line 1: a record by its numbers is `record kind=NUMBER sub=NUMBER` and its fields"),
-    ];
-    for (text, why) in wrong {
+    for (text, why) in WRONG_TEXTS {
         let said = Said::of(piped(&["build", "-"], text.as_bytes()));
         assert_eq!(said, Said { status: 1, out: String::new(), err: format!("signal-book: -: {why}\n") }, "{text}");
     }
@@ -539,50 +548,54 @@ fn the_page_has_every_form() {
 }
 
 /// The fields of a message, and what the page says of its layout.
+const LAYOUTS: &[(&str, &str)] = &[
+    ("", "0 bytes"),
+    ("field N2 type=u8 ordinal=0", "1 byte"),
+    ("field N2 type=void ordinal=0", "0 bytes"),
+    ("field N2 type=(one-child fixed-array (one-child mat3 f64) size=2) ordinal=0", "144 bytes"),
+    ("field N2 type=N3 ordinal=0\nnewtype N3 type=(one-child quat N4)\nnewtype N4 type=fixed32", "16 bytes"),
+    (
+        "field N2 type=u16 ordinal=3\nfield N4 type=(one-child vec2 i8) ordinal=5\nfield N5 type=u64 ordinal=6",
+        "12 bytes",
+    ),
+    ("field N2 type=bool ordinal=0", "no fixed layout, as the type of N2 tells no number of bytes"),
+    ("field N2 type=(sub-byte unsigned 8) ordinal=0", "no fixed layout, as the type of N2 tells no number of bytes"),
+    ("field N2 type=uuid ordinal=0", "no fixed layout, as the type of N2 tells no number of bytes"),
+    ("field N2 type=N1 ordinal=0", "no fixed layout, as the type of N2 tells no number of bytes"),
+    ("field N2 type=N3 ordinal=0\nnewtype N3 type=N3", "no fixed layout, as the type of N2 tells no number of bytes"),
+    ("field N2 type=N9 ordinal=0", "no fixed layout, as the type of N2 tells no number of bytes"),
+    (
+        "field N2 type=(one-child fixed-array (one-child fixed-array u16 size=18446744073709551615) size=2) ordinal=0",
+        "no fixed layout, as the type of N2 tells no number of bytes",
+    ),
+    (
+        "field N2 type=(one-child fixed-array (one-child fixed-array u8 size=9223372036854775808) size=2) ordinal=0",
+        "no fixed layout, as the type of N2 tells no number of bytes",
+    ),
+    (
+        "field N2 type=u8 ordinal=0\nfield N3 type=(one-child fixed-array u8 size=18446744073709551615) ordinal=1",
+        "no fixed layout, as the type of N3 tells no number of bytes",
+    ),
+    ("field N2 type=u8 ordinal=0\nannotation varint", "no fixed layout, as N2 is encoded as varint"),
+    ("annotation delta\nfield N2 type=u8 ordinal=0", "no fixed layout, as N2 is encoded as delta over varint"),
+    (
+        "field N2 type=u8 ordinal=0\nannotation limit\nargument int 3",
+        "no fixed layout, as N2 is encoded as default, limit 3",
+    ),
+    (
+        "field N2 type=u8 ordinal=1\nfield N3 type=u8 ordinal=0",
+        "no fixed layout, as the ordinal of N3 is not above the one before",
+    ),
+    (
+        "field N2 type=u8 ordinal=1\nfield N3 type=u8 ordinal=1",
+        "no fixed layout, as the ordinal of N3 is not above the one before",
+    ),
+    ("field N2 type=u8 ordinal=1\ntombstone of-body ordinal=2", "no fixed layout, as something was removed from it"),
+];
+
 #[test]
 fn layouts() {
-    let layouts = [
-        ("", "0 bytes"),
-        ("field N2 type=u8 ordinal=0", "1 byte"),
-        ("field N2 type=void ordinal=0", "0 bytes"),
-        ("field N2 type=(one-child fixed-array (one-child mat3 f64) size=2) ordinal=0", "144 bytes"),
-        ("field N2 type=N3 ordinal=0\nnewtype N3 type=(one-child quat N4)\nnewtype N4 type=fixed32", "16 bytes"),
-        ("field N2 type=u16 ordinal=3\nfield N4 type=(one-child vec2 i8) ordinal=5\nfield N5 type=u64 ordinal=6", "12 bytes"),
-        ("field N2 type=bool ordinal=0", "no fixed layout, as the type of N2 tells no number of bytes"),
-        ("field N2 type=(sub-byte unsigned 8) ordinal=0", "no fixed layout, as the type of N2 tells no number of bytes"),
-        ("field N2 type=uuid ordinal=0", "no fixed layout, as the type of N2 tells no number of bytes"),
-        ("field N2 type=N1 ordinal=0", "no fixed layout, as the type of N2 tells no number of bytes"),
-        ("field N2 type=N3 ordinal=0\nnewtype N3 type=N3", "no fixed layout, as the type of N2 tells no number of bytes"),
-        ("field N2 type=N9 ordinal=0", "no fixed layout, as the type of N2 tells no number of bytes"),
-        (
-            "field N2 type=(one-child fixed-array (one-child fixed-array u16 size=18446744073709551615) size=2) ordinal=0",
-            "no fixed layout, as the type of N2 tells no number of bytes",
-        ),
-        (
-            "field N2 type=(one-child fixed-array (one-child fixed-array u8 size=9223372036854775808) size=2) ordinal=0",
-            "no fixed layout, as the type of N2 tells no number of bytes",
-        ),
-        (
-            "field N2 type=u8 ordinal=0\nfield N3 type=(one-child fixed-array u8 size=18446744073709551615) ordinal=1",
-            "no fixed layout, as the type of N3 tells no number of bytes",
-        ),
-        ("field N2 type=u8 ordinal=0\nannotation varint", "no fixed layout, as N2 is encoded as varint"),
-        ("annotation delta\nfield N2 type=u8 ordinal=0", "no fixed layout, as N2 is encoded as delta over varint"),
-        (
-            "field N2 type=u8 ordinal=0\nannotation limit\nargument int 3",
-            "no fixed layout, as N2 is encoded as default, limit 3",
-        ),
-        (
-            "field N2 type=u8 ordinal=1\nfield N3 type=u8 ordinal=0",
-            "no fixed layout, as the ordinal of N3 is not above the one before",
-        ),
-        (
-            "field N2 type=u8 ordinal=1\nfield N3 type=u8 ordinal=1",
-            "no fixed layout, as the ordinal of N3 is not above the one before",
-        ),
-        ("field N2 type=u8 ordinal=1\ntombstone of-body ordinal=2", "no fixed layout, as something was removed from it"),
-    ];
-    for (fields, layout) in layouts {
+    for (fields, layout) in LAYOUTS {
         let page = page(&format!("message N1\n{fields}"));
         assert!(page.starts_with(&format!("\nmessage N1: {layout}\n")), "{fields}: {page}");
     }

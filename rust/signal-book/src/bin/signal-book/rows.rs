@@ -157,13 +157,13 @@ macro_rules! keyed {
     };
 }
 
-/// The fields that a record uses, by kind and sub, in the order in which they are written.
-fn slots(kind: u8, sub: u8) -> &'static [Slot] {
+/// The fields that a record of a tree uses, by kind and sub, in the order in which they are written.
+fn of_tree(kind: u8, sub: u8) -> &'static [Slot] {
     use Group::{Constant, Constraint, Operand, Type};
     use Holds::*;
     match (kind, sub) {
         (2, _) => &[bare!(A "bits" Number)],
-        (4 | 11 | 20 | 21 | 25 | 30, _) => &[bare!(A "name" Name)],
+        (4 | 11, _) => &[bare!(A "name" Name)],
         (5, _) => &[bare!(A "namespace" Name), bare!(B "name" Name)],
         (6, _) => &[bare!(A "head" Name), bare!(B "argument" Child(Type))],
         (7, 2) => &[bare!(A "child" Child(Type)), keyed!(V "size" Number)],
@@ -183,6 +183,16 @@ fn slots(kind: u8, sub: u8) -> &'static [Slot] {
         (16, 2) => &[bare!(A "string" Text)],
         (16, 4) => &[keyed!(V "value" NumberOrZero)],
         (16, _) => &[bare!(A "name" Name)],
+        _ => &[],
+    }
+}
+
+/// The fields that a declaration or an item uses.
+fn of_declaration(kind: u8, sub: u8) -> &'static [Slot] {
+    use Group::{Constant, Constraint, Type};
+    use Holds::*;
+    match (kind, sub) {
+        (20 | 21 | 25 | 30, _) => &[bare!(A "name" Name)],
         (22, _) => &[bare!(A "name" Name), keyed!(B "type" Child(Type))],
         (23, _) => &[bare!(A "name" Name), keyed!(B "target" Child(Type))],
         (24, _) => &[bare!(A "name" Name), keyed!(B "type" Child(Type)), keyed!(C "expression" Child(Constant))],
@@ -207,7 +217,8 @@ pub fn row(kind: u8, sub: u8) -> Option<Row> {
     let (_, word, subs) = KINDS.iter().find(|(number, ..)| *number == kind)?;
     let sub_word = subs.get(usize::from(sub)).copied();
     let known = if subs.is_empty() { sub == 0 } else { sub_word.is_some() };
-    known.then(|| Row { word, sub_word, slots: slots(kind, sub) })
+    let slots = if kind < 20 { of_tree(kind, sub) } else { of_declaration(kind, sub) };
+    known.then_some(Row { word, sub_word, slots })
 }
 
 /// The kind of a word, with the words of its subs.
