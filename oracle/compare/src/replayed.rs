@@ -12,9 +12,10 @@ use std::io::{self, BufWriter};
 use std::process::Command;
 use std::time::Instant;
 
-const HELP: &str = "usage: oracle/replayed [--books N] [--seed S]
+const HELP: &str = "usage: oracle/replayed [--books N] [--seed S] [--keep]
   --books N     N readable books (default 20000)
-  --seed S      the books of oracle/run with that seed (default 1)";
+  --seed S      the books of oracle/run with that seed (default 1)
+  --keep        leave the list where it is made, and say where";
 
 /// The folder of what is built, and the program.
 pub const TARGET: &str = "../target";
@@ -31,16 +32,18 @@ struct Options {
     seed: u64,
     /// Spoils one answer, which has to be found. For trying this command.
     damage: bool,
+    keep: bool,
 }
 
 fn options(words: &[String]) -> Option<Options> {
-    let mut o = Options { books: 20_000, seed: 1, damage: false };
+    let mut o = Options { books: 20_000, seed: 1, damage: false, keep: false };
     let mut words = words.iter();
     while let Some(word) = words.next() {
         match word.as_str() {
             "--books" => o.books = words.next()?.parse().ok()?,
             "--seed" => o.seed = words.next()?.parse().ok()?,
             "--damage" => o.damage = true,
+            "--keep" => o.keep = true,
             "--help" => {
                 println!("{HELP}");
                 std::process::exit(0)
@@ -177,7 +180,7 @@ fn compare(path: &str, o: &Options) -> Result<(), Stop> {
     Ok(())
 }
 
-/// Whether all agrees; then the list is removed.
+/// Whether all agrees; then the list is removed, unless it is to be kept.
 pub fn run(words: &[String]) -> bool {
     let o = options(words).unwrap_or_else(|| crate::stop(HELP));
     std::panic::set_hook(Box::new(|_| {}));
@@ -185,7 +188,10 @@ pub fn run(words: &[String]) -> bool {
     match compare(&path, &o) {
         Ok(()) => {
             println!("no difference");
-            fs::remove_file(&path).is_ok()
+            if o.keep {
+                println!("the list is {path}");
+            }
+            o.keep || fs::remove_file(&path).is_ok()
         }
         Err(Stop::Fails(why)) => {
             println!("{}\nthe list is {path}", why.trim_end());

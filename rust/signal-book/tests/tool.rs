@@ -401,7 +401,7 @@ fn records_inside_others_stand_before_them() {
     assert_eq!((records[7].b, records[7].c, records[5].a, records[5].b), (6, 5, 1, 4));
     // A label may stand further on, and inside brackets.
     let book =
-        built("newtype N1 type=^late\nlate: primitive u8\nnewtype N2 type=(in: named N3)\nnewtype N4 type=^in # again");
+        built("newtype N1 type=^late\nlate: primitive u8\nnewtype N2 type=(in: named N3)\nnewtype N4 type=^in #again");
     let records = book_records(&book);
     assert_eq!((records[0].b, records[3].b, records[4].b), (1, 2, 2));
 }
