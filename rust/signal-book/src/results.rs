@@ -140,12 +140,15 @@ impl<'a> Results<'a> {
         self.of_kind(48).map(Newtype)
     }
 
+    /// The messages, unions and newtypes, in the order of their type numbers, from 0.
+    pub fn numbered(self) -> impl Iterator<Item = Declaration<'a>> {
+        self.declarations().filter(|it| !matches!(it, Declaration::Alias(_) | Declaration::Constant(_)))
+    }
+
     /// The message, union or newtype that has a type number. Generic aliases and types that the book does not declare have
     /// numbers behind these, and no declaration among the results.
     pub fn declared(self, id: TypeId) -> Option<Declaration<'a>> {
-        let numbered =
-            |declaration: &Declaration| !matches!(declaration, Declaration::Alias(_) | Declaration::Constant(_));
-        self.declarations().filter(numbered).nth(usize::try_from(id.index()).ok()?)
+        self.numbered().nth(usize::try_from(id.index()).ok()?)
     }
 
     fn of_kind(self, kind: u8) -> impl Iterator<Item = At<'a>> {

@@ -8,14 +8,27 @@ use std::fmt;
 /// The words behind the numbers of a book. A service has them from its parser; what is not given here stays a number.
 ///
 /// ```
-/// use signal_book::{Name, Words};
+/// use signal_book::{lower, BookBuilder, Name, Words, DIAGNOSTICS_LIMIT, RESULTS_LIMIT};
 ///
-/// struct Station;
+/// struct Station(Vec<&'static str>);
+///
 /// impl Words for Station {
 ///     fn name(&self, name: Name) -> String {
-///         ["Rope", "tension", "clock"][usize::from(name.number())].to_string()
+///         self.0.get(usize::from(name.number())).map_or(name.to_string(), |word| word.to_string())
 ///     }
 /// }
+///
+/// let station = Station(vec!["Cabin", "Door"]);
+/// let [cabin, door] = [0, 1].map(|number| Name::new(number).unwrap());
+/// let mut book = BookBuilder::new();
+/// let ty = book.named(door, (16, 4));
+/// book.newtype(cabin, ty, (0, 20));
+///
+/// let (mut results, mut diagnostics) = (vec![0; RESULTS_LIMIT], vec![0; DIAGNOSTICS_LIMIT]);
+/// let lowered = lower(&book.finish()?, &mut results, &mut diagnostics)?;
+/// let diagnostic = lowered.diagnostics().iter().next().unwrap();
+/// assert_eq!(diagnostic.in_words(&station).to_string(), "the type Door is not known");
+/// # Ok::<(), Box<dyn std::error::Error>>(())
 /// ```
 pub trait Words {
     /// The word of a name.

@@ -604,6 +604,18 @@ fn layouts() {
     assert_eq!(offsets, ["0", "2", "4"]);
 }
 
+/// Long types stand out of their column, so that no page is out of proportion to its book; and newtypes that lead back to
+/// themselves come to an end.
+#[test]
+fn pages_of_unfriendly_books() {
+    let long = format!("{}u8{}", "(one-child optional ".repeat(60), ")".repeat(60));
+    let fields: String = (0..400).map(|ordinal| format!("field N2 type=N9 ordinal={ordinal}\n")).collect();
+    let rings = "newtype N9 type=N8\nnewtype N8 type=(one-child vec2 N9)\n";
+    let page = page(&format!("message N1\n{fields}field N3 type={long} ordinal=400\n{rings}"));
+    assert!(page.contains("\n  0        N2     N9    default\n"), "{page}");
+    assert!(page.contains(&format!("\n  400      N3     {}u8{}  default\n", "optional<".repeat(60), ">".repeat(60))));
+}
+
 /// How many records of the results are of a kind.
 fn of_kind(results: &[u8], kind: u8) -> usize {
     results.chunks(24).filter(|record| record[0] == kind).count()

@@ -6,9 +6,6 @@
 
 use signal_book::{Declaration, Field, FieldEncoding, Message, PrimitiveType, ResolvedType, Results, Type};
 
-/// More steps than any type takes whose newtypes do not lead back to themselves.
-const STEPS: usize = 5000;
-
 /// The offset of each field, and the length of the whole, in bytes.
 pub struct Layout {
     pub offsets: Vec<u64>,
@@ -23,49 +20,62 @@ pub enum Open<'a> {
     Width(Field<'a>),
 }
 
-pub fn of<'a>(results: Results<'a>, message: Message<'a>) -> Result<Layout, Open<'a>> {
-    if message.tombstones().next().is_some() {
-        return Err(Open::Tombstone);
-    }
-    let mut layout = Layout { offsets: Vec::new(), bytes: 0 };
-    let mut before = None;
-    for field in message.fields() {
-        if before >= Some(field.ordinal()) {
-            return Err(Open::Order(field));
-        }
-        let end = width(results, field.ty()).and_then(|width| layout.bytes.checked_add(width));
-        let end = end.ok_or(Open::Width(field))?;
-        if field.encoding() != FieldEncoding::DEFAULT {
-            return Err(Open::Encoding(field));
-        }
-        layout.offsets.push(layout.bytes);
-        layout.bytes = end;
-        before = Some(field.ordinal());
-    }
-    Ok(layout)
+/// The messages, unions and newtypes of a book, by their numbers.
+pub struct Declared<'a> {
+    results: Results<'a>,
+    numbered: Vec<Declaration<'a>>,
 }
 
-/// How many bytes a value of a type has, if the type alone tells.
-pub fn width<'a>(results: Results<'a>, mut ty: Type<'a>) -> Option<u64> {
-    let mut count: u64 = 1;
-    for _ in 0..STEPS {
-        let (times, inner) = match ty.resolved() {
-            ResolvedType::Primitive(primitive) => return primitive_width(primitive)?.checked_mul(count),
-            ResolvedType::FixedArray(inner, size) => (size, inner),
-            ResolvedType::Vec2(inner) => (2, inner),
-            ResolvedType::Vec3(inner) => (3, inner),
-            ResolvedType::Vec4(inner) | ResolvedType::Quat(inner) => (4, inner),
-            ResolvedType::Mat3(inner) => (9, inner),
-            ResolvedType::Mat4(inner) => (16, inner),
-            ResolvedType::Named(id) => match results.declared(id)? {
-                Declaration::Newtype(newtype) => (1, newtype.ty()),
-                _ => return None,
-            },
-            _ => return None,
-        };
-        (count, ty) = (count.checked_mul(times)?, inner);
+impl<'a> Declared<'a> {
+    pub fn of(results: Results<'a>) -> Declared<'a> {
+        Declared { results, numbered: results.numbered().collect() }
     }
-    None
+
+    pub fn layout(&self, message: Message<'a>) -> Result<Layout, Open<'a>> {
+        if message.tombstones().next().is_some() {
+            return Err(Open::Tombstone);
+        }
+        let mut layout = Layout { offsets: Vec::new(), bytes: 0 };
+        let mut before = None;
+        for field in message.fields() {
+            if before >= Some(field.ordinal()) {
+                return Err(Open::Order(field));
+            }
+            let end = self.width(field.ty()).and_then(|width| layout.bytes.checked_add(width));
+            let end = end.ok_or(Open::Width(field))?;
+            if field.encoding() != FieldEncoding::DEFAULT {
+                return Err(Open::Encoding(field));
+            }
+            layout.offsets.push(layout.bytes);
+            layout.bytes = end;
+            before = Some(field.ordinal());
+        }
+        Ok(layout)
+    }
+
+    /// How many bytes a value of a type has, if the type alone tells.
+    pub fn width(&self, mut ty: Type<'a>) -> Option<u64> {
+        let mut count: u64 = 1;
+        // A type that does not lead back to itself goes through each record once.
+        for _ in 0..self.results.len() {
+            let (times, inner) = match ty.resolved() {
+                ResolvedType::Primitive(primitive) => return primitive_width(primitive)?.checked_mul(count),
+                ResolvedType::FixedArray(inner, size) => (size, inner),
+                ResolvedType::Vec2(inner) => (2, inner),
+                ResolvedType::Vec3(inner) => (3, inner),
+                ResolvedType::Vec4(inner) | ResolvedType::Quat(inner) => (4, inner),
+                ResolvedType::Mat3(inner) => (9, inner),
+                ResolvedType::Mat4(inner) => (16, inner),
+                ResolvedType::Named(id) => match self.numbered.get(id.index() as usize)? {
+                    Declaration::Newtype(newtype) => (1, newtype.ty()),
+                    _ => return None,
+                },
+                _ => return None,
+            };
+            (count, ty) = (count.checked_mul(times)?, inner);
+        }
+        None
+    }
 }
 
 fn primitive_width(primitive: PrimitiveType) -> Option<u64> {

@@ -1,18 +1,25 @@
 //! What a book says, as a page.
 
 use crate::dump;
-use crate::layout::{self, Layout, Open};
+use crate::layout::{Declared, Layout, Open};
 use crate::names::Names;
 use crate::paint::Paint;
 use signal_book::{
     Accepted, Field, Fields, Item, Message, Name, Results, Tombstone, TypeId, Union, UnionItem, Words, POISON_TYPE_ID,
 };
 
+/// As many letters a cell can have and make its column wider.
+const WIDEST: usize = 40;
+
 pub fn page(path: &str, book: &[u8], lowered: Accepted, names: &Names, paint: Paint) -> String {
     let records = dump::records(book);
-    let words = PageWords { names, types: numbered(&records) };
-    let mut page =
-        Page { results: lowered.results(), words, paint, lines: vec![format!("{path}: {}", counts(lowered))] };
+    let mut page = Page {
+        results: lowered.results(),
+        declared: Declared::of(lowered.results()),
+        words: PageWords { names, types: numbered(&records) },
+        paint,
+        lines: vec![format!("{path}: {}", counts(lowered))],
+    };
     page.aliases(&records);
     page.constants(&records);
     page.bodies();
@@ -70,6 +77,7 @@ fn generic(records: &[Fields]) -> impl Iterator<Item = (u16, Vec<u16>)> + '_ {
 
 struct Page<'a> {
     results: Results<'a>,
+    declared: Declared<'a>,
     words: PageWords<'a>,
     paint: Paint,
     lines: Vec<String>,
@@ -85,12 +93,13 @@ impl<'a> Page<'a> {
         self.lines.push(format!("{:indent$}{text}", ""));
     }
 
-    /// Rows of cells, each column as wide as its widest cell.
+    /// Rows of cells, each column as wide as its widest cell; but one that is too wide stands out of its column.
     fn table(&mut self, indent: usize, rows: &[Vec<String>]) {
         let columns = rows.iter().map(Vec::len).max().unwrap_or(0);
         let cell = |row: &[String], column: usize| row.get(column).map_or(0, |cell| cell.chars().count());
-        let widths: Vec<usize> =
-            (0..columns).map(|column| rows.iter().map(|row| cell(row, column)).max().unwrap_or(0)).collect();
+        let width =
+            |column| rows.iter().map(|row| cell(row, column)).filter(|width| *width <= WIDEST).max().unwrap_or(0);
+        let widths: Vec<usize> = (0..columns).map(width).collect();
         for row in rows {
             let cells: Vec<String> = row.iter().zip(&widths).map(|(cell, width)| format!("{cell:width$}")).collect();
             self.line(indent, cells.join("  ").trim_end());
@@ -138,7 +147,7 @@ impl<'a> Page<'a> {
                 Message(message) => self.message(message),
                 Union(union) => self.union(union),
                 Newtype(newtype) => {
-                    let width = layout::width(self.results, newtype.ty());
+                    let width = self.declared.width(newtype.ty());
                     let width = width.map_or(String::new(), |width| format!(": {}", bytes(width)));
                     let ty = newtype.ty().in_words(&self.words).to_string();
                     self.heading(&format!("newtype {} of {ty}{width}", self.words.name(newtype.name())));
@@ -149,7 +158,7 @@ impl<'a> Page<'a> {
     }
 
     fn message(&mut self, message: Message<'a>) {
-        let layout = layout::of(self.results, message);
+        let layout = self.declared.layout(message);
         let why = match &layout {
             Ok(layout) => bytes(layout.bytes),
             Err(open) => format!("no fixed layout, as {}", self.open(open)),
