@@ -90,6 +90,17 @@ pub enum TombstoneKey {
 /// assert_eq!(field.ty().to_string(), "u16");
 /// # Ok::<(), Box<dyn std::error::Error>>(())
 /// ```
+///
+/// A part that is used twice, which cause 5 would refuse, does not compile:
+///
+/// ```compile_fail,E0382
+/// # use signal_book::{BookBuilder, Name, PrimitiveType, Span};
+/// # let [door, cabin] = [1, 2].map(|number| Name::new(number).unwrap());
+/// # let mut book = BookBuilder::new();
+/// let ty = book.primitive(PrimitiveType::U8, Span::NONE);
+/// book.newtype(door, ty, Span::NONE);
+/// book.newtype(cabin, ty, Span::NONE);
+/// ```
 #[derive(Clone, Debug, Default)]
 pub struct BookBuilder {
     records: Vec<Fields>,
