@@ -2,12 +2,12 @@
 -- Assumes nothing.
 use Prim.Native.Nat.{ℕ, zero, suc, _+_, _*_, _/_, _%_, _^_, _≤_, _<_}
 use mathlib.Core.List.{List, [], _∷_, _++_}
-use mathlib.Core.Path.{_≡_, refl, sym, ap}
-use native.Mathlib.Nat.{zero-add, suc-add, pow-suc, one-le-pow, div-lt-iff-lt-mul}
+use mathlib.Core.Path.{_≡_, refl, sym, ap, _∙_}
+use native.Mathlib.Nat.{zero-add, add-zero, suc-add, pow-suc, one-le-pow, div-lt-iff-lt-mul}
 use native.Mathlib.Omega.{arith}
 use lib.Dec.{lit<, lit≤}
 use lib.ListN.{length, take, drop, getD}
-use lib.Seq.{getD-drop}
+use lib.Seq.{getD-drop, drop-drop}
 use Rattle.record.specs.Bytes.{AreBytes, littleEndian, littleBytes}
 
 behind : {b : ℕ} {s : List ℕ} → AreBytes (b ∷ s) → AreBytes s
@@ -60,6 +60,18 @@ pub halves :
     high ≡ littleEndian k t →
     low + 256 ^ k * high ≡ littleEndian (k + k) s
 halves k s t l d h = rw (l, h, d) (sym (parts k k s))
+
+-- the same at a place
+pub halves-at :
+    (k : ℕ) (s : List ℕ) (at : ℕ) {low high : ℕ} →
+    low ≡ littleEndian k (drop at s) →
+    high ≡ littleEndian k (drop (at + k) s) →
+    low + 256 ^ k * high ≡ littleEndian (k + k) (drop at s)
+halves-at k s at l h = halves k (drop at s) (drop (at + k) s) l (sym (drop-drop k at s)) h
+
+-- a byte at a place
+pub one-at : (s : List ℕ) (at : ℕ) → getD s at 0 ≡ littleEndian 1 (drop at s)
+one-at s at = sym (one-there (drop at s) ∙ getD-drop at s 0 0 ∙ ap (λ (i : ℕ). getD s i 0) (add-zero at))
 
 -- n bytes make a number below 256^n
 pub number-below : (n : ℕ) (s : List ℕ) → AreBytes s → littleEndian n s < 256 ^ n

@@ -1,7 +1,7 @@
 -- The check of a block, from RFC 1071 (the Internet checksum), whose steps (1) and (2) are said here in other words. Words in quotation
 -- marks are document 01's.
 -- Assumes nothing.
-use Prim.Native.Nat.{ℕ, _+_, _-_, _*_, _/_, _%_, _<_}
+use Prim.Native.Nat.{ℕ, _+_, _-_, _*_, _/_, _%_, _^_, _<_}
 use mathlib.Core.Bool.{Bool}
 use mathlib.Core.List.{List, [], _∷_}
 use mathlib.Core.Path.{_≡_}
@@ -43,6 +43,11 @@ checkHolds book k = eqb (getD (blockWords book k) 255 0) (blockCheck book k)
 unfoldable pub total : List ℕ → ℕ
 total [] = 0
 total (w ∷ ws) = w + total ws
+
+-- a sum of the first 255 words of s: three folds of its carries give their one's complement sum
+pub record SumsUp (s : List ℕ) (sum : ℕ) : Type 0 where
+  pub folds : once (once (once sum)) ≡ onesSum (take 255 (words s))
+  pub small : sum < 2 ^ 39
 
 -- What is claimed of document 01's way to the same check, "add the first 255, fold carries into 16 bits until none is left, invert all
 -- bits": of the sum of the first 255 words none is left after two folds, and the inverted rest is the checksum of RFC 1071. The proof is in

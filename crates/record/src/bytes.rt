@@ -1,7 +1,8 @@
 // Numbers at the front of a slice, least significant byte first. A byte past the end counts as 0.
 
 ghost use mathlib.Core.Path.{_≡_};
-ghost use lib.ListN.{drop};
+ghost use Prim.Native.Nat.{_+_, _≤_, _<_};
+ghost use lib.ListN.{length, drop};
 ghost use Rattle.record.specs.Bytes.{littleEndian};
 
 // What is left of s from a place on: nothing where the place is past the end.
@@ -38,5 +39,40 @@ pub(crate) fn eight(s: &[u8]) -> u64
 {
     let low = four(s) as u64;
     let high = four(from(s, 4)) as u64;
+    low + 0x1_0000_0000 * high
+}
+
+// A byte as a number of 16 bits.
+fn wide(x: u8) -> u16
+    ensures { λ r. ⌜ (r ≡ x) × (r < 256) ⌝ }
+{
+    x as u16
+}
+
+// The number in two bytes of s, from a place on. All bytes of it are there, as for the two below.
+pub(crate) fn two_in(s: &[u8], at: usize) -> u16
+    requires { ⌜ at + 2 ≤ length (now s) ⌝ }
+    ensures { λ r. ⌜ r ≡ littleEndian 2 (drop at (now (s .entry))) ⌝ }
+{
+    let low = wide(s[at]);
+    let high = wide(s[at + 1]);
+    0x100 * high + low
+}
+
+pub(crate) fn four_in(s: &[u8], at: usize) -> u32
+    requires { ⌜ at + 4 ≤ length (now s) ⌝ }
+    ensures { λ r. ⌜ r ≡ littleEndian 4 (drop at (now (s .entry))) ⌝ }
+{
+    let low = two_in(s, at) as u32;
+    let high = two_in(s, at + 2) as u32;
+    low + 0x1_0000 * high
+}
+
+pub(crate) fn eight_in(s: &[u8], at: usize) -> u64
+    requires { ⌜ at + 8 ≤ length (now s) ⌝ }
+    ensures { λ r. ⌜ r ≡ littleEndian 8 (drop at (now (s .entry))) ⌝ }
+{
+    let low = four_in(s, at) as u64;
+    let high = four_in(s, at + 4) as u64;
     low + 0x1_0000_0000 * high
 }

@@ -1,6 +1,8 @@
 // The 24-byte record and the 512-byte block of a signal book.
 
 ghost use mathlib.Core.Path.{_≡_};
+ghost use Prim.Native.Nat.{_+_, _*_, _/_, _%_, _≤_};
+ghost use lib.ListN.{length, drop};
 ghost use Rattle.record.specs.Layout.{decodeRecord, encodeRecord, recordAt};
 
 pub mod bytes;
@@ -12,8 +14,6 @@ pub mod write;
 const BLOCK_BYTES: usize = 512;
 
 const HEADER_BYTES: usize = 4;
-
-const BLOCK_RECORDS: u16 = 21;
 
 const RECORD_BYTES: usize = 24;
 
@@ -34,7 +34,7 @@ pub struct Record {
     pub span: Span,
 }
 
-// The record that stands at the front of s.
+// The record that stands at the front of s. A byte past the end counts as 0.
 fn decode(s: &[u8]) -> Record
     ensures { λ r. ⌜ r ≡ decodeRecord (now (s .entry)) ⌝ }
 {
@@ -52,16 +52,57 @@ fn decode(s: &[u8]) -> Record
     }
 }
 
+// The record that stands at a place of s, all of it: the same without a look at each byte.
+fn decode_in(s: &[u8], at: usize) -> Record
+    requires { ⌜ at + 24 ≤ length (now s) ⌝ }
+    ensures { λ r. ⌜ r ≡ decodeRecord (drop at (now (s .entry))) ⌝ }
+{
+    Record {
+        kind: s[at],
+        sub: s[at + 1],
+        a: bytes::two_in(s, at + 2),
+        b: bytes::two_in(s, at + 4),
+        c: bytes::two_in(s, at + 6),
+        v: bytes::eight_in(s, at + 8),
+        span: Span {
+            offset: bytes::four_in(s, at + 16),
+            len: bytes::four_in(s, at + 20),
+        },
+    }
+}
+
+// The block of record r: r / 21, by a product, which takes a third of the instructions. 3,195,661 is 2^26 / 21, rounded up.
+fn block_of(r: u16) -> usize
+    ensures { λ x. ⌜ x ≡ r / 21 ⌝ }
+{
+    (r as usize) * 3195661 / 0x400_0000
+}
+
+// Where record r of a book stands. Each block before its own has eight bytes besides its records.
+fn place_of(r: u16) -> usize
+    ensures { λ x. ⌜ x ≡ 512 * (r / 21) + 4 + 24 * (r % 21) ⌝ }
+{
+    RECORD_BYTES * (r as usize) + 8 * block_of(r) + HEADER_BYTES
+}
+
 // Record r of a book, at its place in its block. A byte past the end of the slice counts as 0.
 pub fn record_at(book: &[u8], r: u16) -> Record
     ensures { λ x. ⌜ x ≡ recordAt (now (book .entry)) r ⌝ }
 {
-    let block = (r / BLOCK_RECORDS) as usize;
-    let place = (r % BLOCK_RECORDS) as usize;
-    decode(bytes::from(
-        book,
-        BLOCK_BYTES * block + HEADER_BYTES + RECORD_BYTES * place,
-    ))
+    let at = place_of(r);
+    if at + RECORD_BYTES <= book.len() {
+        decode_in(book, at)
+    } else {
+        decode(bytes::from(book, at))
+    }
+}
+
+// The kind of record r of a book.
+pub fn kind_at(book: &[u8], r: u16) -> u8
+    ensures { λ x. ⌜ x ≡ recordAt (now (book .entry)) r .kind ⌝ }
+{
+    let at = place_of(r);
+    if at < book.len() { book[at] } else { 0 }
 }
 
 // The 24 bytes of a record.

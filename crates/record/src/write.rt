@@ -10,6 +10,7 @@ use crate::RECORD_BYTES;
 use crate::Record;
 use crate::bytes;
 use crate::decode;
+use crate::decode_in;
 use crate::encode;
 
 // The number of records that may be written to dst: `most`, or as many as it holds whole.
@@ -59,5 +60,10 @@ pub fn clear(dst: &mut [u8], most: u16)
 pub fn written_at(s: &[u8], n: u16) -> Record
     ensures { λ r. ⌜ r ≡ decodeRecord (drop (24 * n) (now (s .entry))) ⌝ }
 {
-    decode(bytes::from(s, RECORD_BYTES * (n as usize)))
+    let at = RECORD_BYTES * (n as usize);
+    if at + RECORD_BYTES <= s.len() {
+        decode_in(s, at)
+    } else {
+        decode(bytes::from(s, at))
+    }
 }

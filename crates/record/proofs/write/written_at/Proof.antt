@@ -6,8 +6,10 @@ use Rattle.record.specs.Layout.{decodeRecord}
 use Rattle.record.proofs.write.written_at.Statement.{statement}
 use Rattle.record.proofs.write.written_at.Tie as tie
 
-returns : tie.Need-returns
-returns c = c .decode .ensures ∙ ap decodeRecord (c .before .from .ensures)
+returns-2 : tie.Need-returns-2
+returns-2 c = c .decode .ensures ∙ ap decodeRecord (c .before .from .ensures)
 
 pub written-at-spec : {M : Type 1} → statement M
-written-at-spec = tie.close (tie.spec (λ c. search needs) (λ c κs. search needs) (λ c κs. search needs) returns)
+written-at-spec =
+    tie.close
+    (tie.spec (λ c. search needs) (λ c. search needs) (λ c κs. search needs) (λ c κs. search needs) (λ c κs. search needs) (λ c. search needs) returns-2)
