@@ -113,8 +113,7 @@ fn is_plain_alias(book: &[u8], count: u16, n: u16) -> bool
     requires { ⌜ Readable (now book) × (count ≡ recordCount (now book)) × (n < count) ⌝ }
     ensures { λ r. ⌜ r ≡ isPlainAlias (read (now (book .entry))) n ⌝ }
 {
-    let r = record::record_at(book, n);
-    if r.kind != 23 {
+    if record::kind_at(book, n) != 23 {
         return false;
     }
     match register::parameter_of(book, count, n) {

@@ -30,7 +30,7 @@ use record::type_id;
 use record::type_id::TypeId;
 
 // The result record of a primitive, sub-byte, semantic or inline type.
-fn plain_record(r: Record) -> Record
+pub(crate) fn plain_record(r: Record) -> Record
     ensures { λ x. ⌜ x ≡ plainRecord r ⌝ }
 {
     let kind = r.kind;

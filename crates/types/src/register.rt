@@ -28,11 +28,12 @@ pub(crate) fn parameter_of(book: &[u8], count: u16, n: u16) -> Parameter
 {
     let mut m = n + 1;
     while m < count {
-        let r = record::record_at(book, m);
-        if r.kind == 30 {
+        let kind = record::kind_at(book, m);
+        if kind == 30 {
+            let r = record::record_at(book, m);
             return Parameter::Is(r.a);
         }
-        if 16 < r.kind {
+        if 16 < kind {
             return Parameter::Nothing;
         }
         m += 1;
@@ -54,15 +55,17 @@ fn register_types(
     let mut next: u32 = 0;
     let mut n: u16 = 0;
     while n < count {
-        let r = record::record_at(book, n);
-        let name = r.a as usize;
-        let kind = r.kind;
+        let kind = record::kind_at(book, n);
         match kind {
             20..=22 => {
+                let r = record::record_at(book, n);
+                let name = r.a as usize;
                 numbers[name] = next;
                 next += 1;
             }
             25 => {
+                let r = record::record_at(book, n);
+                let name = r.a as usize;
                 ambiguous[name] = true;
             }
             _ => {}
@@ -89,9 +92,9 @@ pub fn register_declarations(
     let mut next = types;
     let mut n: u16 = 0;
     while n < count {
-        let r = record::record_at(book, n);
-        if r.kind == 23 {
+        if record::kind_at(book, n) == 23 {
             if let Parameter::Is(parameter) = parameter_of(book, count, n) {
+                let r = record::record_at(book, n);
                 let at = (next - types) as usize;
                 let name = r.a as usize;
                 generics[at] = 0x1_0000 * (parameter as u32) + r.b as u32;

@@ -322,11 +322,16 @@ pub fn resolve_type(
         (resolveType (read (now (book .entry))) n) r
         (held (now (numbers .exit)) (now (pairs .exit)) (now (results .exit)) (now (diagnostics .exit))) ⌝ }
 {
+    let r = record::record_at(book, n);
+    // Primitive, sub-byte and semantic types, which most are, take no further step.
+    if r.kind < 4 {
+        return write::emit(leaf::plain_record(r), ctx, results);
+    }
     resolve_type_expr(
         DEPTH,
         book,
         n,
-        span_at(book, n),
+        r.span,
         scope,
         ctx,
         ambiguous,

@@ -1,6 +1,7 @@
 -- `types::register::parameter_of` meets its contract. The loop's invariant: between the alias and record m there are only parts of trees.
 -- Assumes nothing.
 use Prim.Native.Nat.{_-_}
+use mathlib.Core.Path.{refl, sym, ap, _∙_}
 use native.Mathlib.Omega.{arith}
 use borrow.Author.Needs.{needs}
 use Rattle.book.specs.Blocks.{records}
@@ -22,21 +23,22 @@ loop-holds c = walked-start (c .before .pre .0)
 
 returns : tie.Need-returns Inv-loop μ-loop
 returns c =
-    let p = c .before .before in
-    let l = p .before .before in
-    first-parameter (l .before .before .pre .0) (l .loop .inv) (omega arith) (p .record-at .ensures) (c .if1 .taken)
+    let l = c .before .before .before .before in
+    first-parameter (l .before .before .pre .0) (l .loop .inv) (omega arith) (c .record-at .ensures)
+    (ap (λ r. r .kind) (c .record-at .ensures) ∙ sym (c .before .before .kind-at .ensures) ∙ c .before .if1 .taken)
 
 returns-2 : tie.Need-returns-2 Inv-loop μ-loop
 returns-2 c =
-    let p = c .before .before .before .before in
+    let p = c .before .before in
     let l = p .before .before in
-    no-parameter (l .before .before .pre .0) (l .loop .inv) (omega arith) (p .record-at .ensures) (c .if2 .taken) (c .before .before .if1 .left)
+    no-parameter (l .before .before .pre .0) (l .loop .inv) (omega arith) refl
+    (rw (p .kind-at .ensures) at (c .if2 .taken)) (rw (p .kind-at .ensures) at (c .before .if1 .left))
 
 loop-again : tie.Need-loop-again Inv-loop μ-loop
 loop-again c =
-    let p = c .before .before .before .before in
+    let p = c .before .before in
     let l = p .before .before in
-    walked-on (l .before .before .pre .0) (l .loop .inv) (omega arith) (p .record-at .ensures) (c .if2 .left)
+    walked-on (l .before .before .pre .0) (l .loop .inv) (omega arith) refl (rw (p .kind-at .ensures) at (c .if2 .left))
 
 returns-3 : tie.Need-returns-3 Inv-loop μ-loop
 returns-3 c = let l = c .before in none-left (l .before .before .pre .0) (l .loop .inv) (omega arith)
@@ -49,6 +51,7 @@ parameter-of-spec =
     μ-loop
     add-m
     loop-holds
+    (λ c κs. search needs)
     (λ c κs. search needs)
     returns
     returns-2

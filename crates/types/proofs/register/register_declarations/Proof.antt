@@ -3,7 +3,7 @@
 -- Assumes nothing.
 use Prim.Native.Nat.{_-_, _≤_, _<_}
 use mathlib.Core.Logic.{⊎-elim}
-use mathlib.Core.Path.{sym, ap, _∙_}
+use mathlib.Core.Path.{refl, sym, ap, _∙_}
 use native.Mathlib.Omega.{arith}
 use denote.Ref.{now}
 use borrow.Author.Needs.{needs}
@@ -47,9 +47,9 @@ module _ (c : tie.In-loop Inv-loop μ-loop) where
 
 parameter-of-requires : tie.Need-parameter-of-requires Inv-loop μ-loop
 parameter-of-requires c κs =
-    let p = c .before .before in
+    let p = c .before in
     let l = p .before .before in (
-      is-alias-at (readable (p .before)) (less (p .before)) (p .record-at .ensures) (c .if1 .taken),
+      is-alias-at (readable (p .before)) (less (p .before)) refl (sym (p .kind-at .ensures) ∙ c .if1 .taken),
       l .before .before .before .before .before .pre .0 .1,
     )
 
@@ -67,10 +67,10 @@ element-write-generics c = small (c .before .before .before .before .before .bef
 
 element-write-numbers : tie.Need-element-write-numbers Inv-loop μ-loop
 element-write-numbers c =
-    let f = c .before .before .before .before .before .before in
-    let p = f .before .before in
+    let f = c .before .before .before .before .before .before .before in
+    let p = f .before in
     let t = p .before in
-    alias-name (is-alias-at (readable t) (less t) (p .record-at .ensures) (f .if1 .taken)) (p .record-at .ensures)
+    alias-name (is-alias-at (readable t) (less t) refl (sym (p .kind-at .ensures) ∙ f .if1 .taken)) (c .before .before .record-at .ensures)
 
 add-next : tie.Need-add-next Inv-loop μ-loop
 add-next c =
@@ -79,19 +79,20 @@ add-next c =
 
 loop-again : tie.Need-loop-again Inv-loop μ-loop
 loop-again c =
-    let p = c .before .before in
+    let p = c .before in
     let t = p .before in
     let inv = t .before .loop .inv in
-    let at = p .record-at .ensures in
+    let is = p .kind-at .ensures in
     ⊎-elim
     (λ w.
     let parameter = ap parameterOf (sym (w .3 .given .1)) ∙ w .1 .ensures in
-    rw (w .7, w .8, w .9) (registering-generic (readable t) inv (less t) at (w .0 .taken) (w .3 .given .0 .0) parameter))
+    let kind = ap (λ r. r .kind) (w .5 .ensures) ∙ sym is ∙ w .0 .taken in
+    rw (w .8, w .9, w .10) (registering-generic (readable t) inv (less t) (w .5 .ensures) kind (w .3 .given .0 .0) parameter))
     (⊎-elim
     (λ w.
     let nothing = ap parameterOf (sym (w .3 .given .1)) ∙ w .1 .ensures in
-    rw (w .4, w .5, w .6) (registering-plain (readable t) inv (less t) at (w .0 .taken) nothing))
-    (λ w. rw (w .1, w .2, w .3) (registering-other (readable t) inv (less t) at (w .0 .left))))
+    rw (w .4, w .5, w .6) (registering-plain (readable t) inv (less t) refl (sym is ∙ w .0 .taken) nothing))
+    (λ w. rw (w .1, w .2, w .3) (registering-other (readable t) inv (less t) refl (λ e. w .0 .left (is ∙ e)))))
     (c .if1 .came)
 
 returns : tie.Need-returns Inv-loop μ-loop
@@ -111,6 +112,7 @@ register-declarations-spec =
     (λ c κs. search needs)
     parameter-of-requires
     (λ c. search needs)
+    (λ c κs. search needs)
     sub-at
     cast-at
     (λ c. search needs)
