@@ -40,10 +40,9 @@ use Rattle.types.proofs.Records.{rootRecord, stands-root, read-back}
 use Rattle.types.proofs.Emitting.{limitsOf}
 use Rattle.types.proofs.Arms.{rooted}
 use Rattle.types.proofs.Finishing.{stands-so}
-use Rattle.bodies.specs.declared.encodings.Inner as inners
 use Rattle.bodies.specs.declared.encodings.FieldEncoding as fields
 use Rattle.bodies.specs.Encoding.{FieldEncoding, computeFieldEncoding, deltaInner, underInner, underDelta, encodingRecord}
-use Rattle.bodies.specs.Encoded.{innerOf, fieldEncodingOf, innerAt}
+use Rattle.bodies.specs.Encoded.{fieldEncodingOf, innerAt}
 use Rattle.bodies.specs.Bodies.{carried, lowerField}
 use Rattle.bodies.specs.Lowers.{IsAt, MaybeWhere, maybeWhere, emitLast, finishField, FinishesField}
 use Rattle.bodies.proofs.Turns.{inside, record-is, type-stops}
@@ -116,12 +115,10 @@ root-inner n (inlineBits k) = refl
 -- gets
 pub record Encodes (bytes results : List ℕ) (delta : Bool) (n root : ℕ) (e : fields.FieldEncoding) : Type 0 where
   pub shape : Record
-  pub inner : inners.Inner
   pub own : fields.FieldEncoding
   pub shape-is : shape ≡ decodeRecord (drop (24 * root) results)
-  pub inner-is : innerOf inner ≡ innerAt (shape .kind) (shape .sub)
   pub own-is : fieldEncodingOf own ≡ computeFieldEncoding (notes (read bytes) n)
-  pub is : fieldEncodingOf e ≡ underInner delta (innerOf inner) (fieldEncodingOf own)
+  pub is : fieldEncodingOf e ≡ underInner delta (innerAt (shape .kind) (shape .sub)) (fieldEncodingOf own)
 
 module _
     {bytes : List ℕ} {scope : Scope} {lent : Lent} {place : ℕ} {aliases : List ℕ} {ctx : LowerCtx} {h : Held} {k : Names} {s : State}
@@ -133,7 +130,7 @@ module _
   unfolding underDelta
   encoding-is {first = first} {root = root} {t = t} stands x =
       let shape-is = x .shape-is ∙ read-back (s .results) (lent .results) root (f .results-are) (f .sized) (stands .inside) ∙ stands-root stands in
-      rw (x .is, x .own-is, x .inner-is, shape-is, root-inner first t)
+      rw (x .is, x .own-is, shape-is, root-inner first t)
 
 -- its record is a 46
 pub encoding-kind : (e : FieldEncoding) → encodingRecord e .kind ≡ 46

@@ -48,11 +48,11 @@ fn lower_items(
     let mut behind = ctx;
     let mut m = n + 1;
     while m < count {
-        let r = record::record_at(book, m);
-        if (19 < r.kind) & (r.kind < 26) {
+        let kind = record::kind_at(book, m);
+        if (19 < kind) & (kind < 26) {
             return Part::Lowered(behind);
         }
-        if (30 < r.kind) & (r.kind < 34) {
+        if (30 < kind) & (kind < 34) {
             let lowered = items::lower_item(
                 book,
                 count,
@@ -236,8 +236,7 @@ fn lower_decl(
         (lowerDecl (read (now (book .entry))) n) r
         (held (now (numbers .exit)) (now (pairs .exit)) (now (results .exit)) (now (diagnostics .exit))) ⌝ }
 {
-    let r = record::record_at(book, n);
-    let kind = r.kind;
+    let kind = record::kind_at(book, n);
     match kind {
         20 => lower_message(
             book,
@@ -314,8 +313,8 @@ pub fn lower_bodies(
     let mut behind = ctx;
     let mut n: u16 = 0;
     while n < count {
-        let r = record::record_at(book, n);
-        if (19 < r.kind) & (r.kind < 23) {
+        let kind = record::kind_at(book, n);
+        if (19 < kind) & (kind < 23) {
             let lowered = lower_decl(
                 book,
                 count,

@@ -103,7 +103,7 @@ fn primitive_inner(code: u8) -> Inner
 }
 
 // What a message's delta does with a field whose type has a root of this kind and sub.
-pub(crate) fn delta_inner(kind: u8, sub: u8) -> Inner
+fn delta_inner(kind: u8, sub: u8) -> Inner
     ensures { λ r. ⌜ innerOf r ≡ innerAt kind sub ⌝ }
 {
     match kind {
@@ -159,13 +159,14 @@ fn annotations_of(book: &[u8], count: u16, n: u16) -> Annotations
     };
     let mut m = n + 1;
     while m < count {
-        let r = record::record_at(book, m);
-        let kind = r.kind;
+        let kind = record::kind_at(book, m);
         match kind {
             34 => {
+                let r = record::record_at(book, m);
                 seen = with_annotation(seen, r.sub);
             }
             35 => {
+                let r = record::record_at(book, m);
                 seen = with_argument(seen, r);
             }
             0..=16 | 30 | 36 => {}
@@ -213,15 +214,16 @@ pub(crate) fn compute_field_encoding(book: &[u8], count: u16, n: u16) -> FieldEn
     }
 }
 
-// An encoding under a message's delta, if the message has it and the field is not delta yet.
-pub(crate) fn under_delta(delta: bool, inner: Inner, e: FieldEncoding) -> FieldEncoding
-    ensures { λ r. ⌜ fieldEncodingOf r ≡ underInner delta (innerOf inner) (fieldEncodingOf e) ⌝ }
+// An encoding under a message's delta, if the message has it and the field is not delta yet. The field's type has a root
+// of this kind and sub.
+pub(crate) fn under_delta(delta: bool, kind: u8, sub: u8, e: FieldEncoding) -> FieldEncoding
+    ensures { λ r. ⌜ fieldEncodingOf r ≡ underInner delta (innerAt kind sub) (fieldEncodingOf e) ⌝ }
 {
     if !delta | e.delta {
         return e;
     }
     let before = e.encoding;
-    let encoding = match inner {
+    let encoding = match delta_inner(kind, sub) {
         Inner::NotEligible => return e,
         Inner::HadBefore => before,
         Inner::Over(base) => base,

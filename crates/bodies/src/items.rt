@@ -43,9 +43,8 @@ fn finish_field(
 {
     let r = record::record_at(book, n);
     let shape = write::written_at(results, root);
-    let inner = encodings::delta_inner(shape.kind, shape.sub);
     let own = encodings::compute_field_encoding(book, count, n);
-    let encoding = encodings::under_delta(delta, inner, own);
+    let encoding = encodings::under_delta(delta, shape.kind, shape.sub, own);
     match where_expr::lower_constraint(book, r.c, ctx, results) {
         Resolved::Root(c, behind) => {
             let field = emits::carried(45, r.a, root, c, r);
@@ -248,8 +247,7 @@ pub(crate) fn lower_item(
         n (lowerItem (read (now (book .entry))) delta n) r
         (held (now (numbers .exit)) (now (pairs .exit)) (now (results .exit)) (now (diagnostics .exit))) ⌝ }
 {
-    let r = record::record_at(book, n);
-    let kind = r.kind;
+    let kind = record::kind_at(book, n);
     match kind {
         31 => lower_field(
             book,

@@ -34,7 +34,7 @@ loop-holds : tie.Need-loop-holds Inv-loop μ-loop
 loop-holds c = (along-other along-start (types-all (read (now (c .before .before .before .args .book)))), refl, refl)
 
 -- in a turn of the loop
-module _ (c : tie.After-record-at Inv-loop μ-loop) where
+module _ (c : tie.After-kind-at Inv-loop μ-loop) where
   readable : Readable (now (c .before .before .before .before .before .before .args .book))
   readable = c .before .before .before .before .before .before .pre .1 .0 .readable
 
@@ -43,30 +43,30 @@ module _ (c : tie.After-record-at Inv-loop μ-loop) where
 
 lower-decl-requires : tie.Need-lower-decl-requires Inv-loop μ-loop
 lower-decl-requires c κs =
-    let p = c .before .before .before .before .before .before .before in
+    let p = c .before .before .before .before .before in
     let l = p .before .before in
     let pre = l .before .before .before .before .pre in
-    ((its-decl (readable p) (less p) (p .record-at .ensures) (c .before .before .before .before .if1 .taken), pre .0), (pre .1 .0, along-stands (l .loop .inv .0) (pre .1 .1)))
+    ((its-decl (readable p) (less p) refl (rw (p .kind-at .ensures) at (c .before .before .before .before .if1 .taken)), pre .0), (pre .1 .0, along-stands (l .loop .inv .0) (pre .1 .1)))
 
 returns : tie.Need-returns Inv-loop μ-loop
 unfolding lowerBodies
 returns c =
     let d = c .before .before .before .before .before .before .before in
     let i = d .before .before .before .before .before in
-    let p = i .before .before .before in
-    let one = types-next (readable p) (less p) (p .record-at .ensures) (i .if1 .taken) in
+    let p = i .before in
+    let one = types-next (readable p) (less p) refl (rw (p .kind-at .ensures) at (i .if1 .taken)) in
     along-refused (along-other (p .before .before .loop .inv .0) one) (d .lower-decl .ensures) _ _ (c .before .lowered2 .given .1)
 
 loop-again : tie.Need-loop-again Inv-loop μ-loop
 loop-again c =
-    let p = c .before .before .before in
+    let p = c .before in
     let l = p .before .before in
     ⊎-elim
     (λ w.
     rw (w .13, w .14, w .15, w .16, w .17) (
       along-done
           (along-other (l .loop .inv .0)
-          (types-next (readable p) (less p) (p .record-at .ensures) (w .0 .taken)))
+          (types-next (readable p) (less p) refl (rw (p .kind-at .ensures) at (w .0 .taken))))
           (w .5 .ensures) _ (w .11 .given .1),
       search needs,
       search needs,
@@ -74,7 +74,7 @@ loop-again c =
     (λ w.
     rw (w .1, w .2, w .3, w .4, w .5) (
       along-other (l .loop .inv .0)
-          (types-next (readable p) (less p) (p .record-at .ensures) (w .0 .left)),
+          (types-next (readable p) (less p) refl (rw (p .kind-at .ensures) at (w .0 .left))),
       l .loop .inv .1,
       l .loop .inv .2,
     ))

@@ -37,7 +37,7 @@ loop-holds : tie.Need-loop-holds Inv-loop μ-loop
 loop-holds c = let s = c .before .before .before in (along-other along-start (items-all (read (now (s .args .book))) (s .args .n)), refl, refl)
 
 -- in a turn of the loop
-module _ (c : tie.After-record-at Inv-loop μ-loop) where
+module _ (c : tie.After-kind-at Inv-loop μ-loop) where
   readable : Readable (now (c .before .before .before .before .before .before .args .book))
   readable = c .before .before .before .before .before .before .pre .0 .0 .readable
 
@@ -46,53 +46,53 @@ module _ (c : tie.After-record-at Inv-loop μ-loop) where
 
 returns : tie.Need-returns Inv-loop μ-loop
 returns c =
-    let p = c .before .before .before in
-    along-end (along-other (p .before .before .loop .inv .0) (items-stop (readable p) (less p) (p .record-at .ensures) (c .if1 .taken)))
+    let p = c .before in
+    along-end (along-other (p .before .before .loop .inv .0) (items-stop (readable p) (less p) refl (rw (p .kind-at .ensures) at (c .if1 .taken))))
 
 lower-item-requires : tie.Need-lower-item-requires Inv-loop μ-loop
 lower-item-requires c κs =
     let i = c .before .before .before .before in
-    let p = i .before .before .before .before .before .before in
+    let p = i .before .before in
     let l = p .before .before in
     let pre = l .before .before .before .before .pre in
-    ((its-item (readable p) (less p) (p .record-at .ensures) (i .if2 .taken), pre .0 .1), (pre .1 .0, along-stands (l .loop .inv .0) (pre .1 .1)))
+    ((its-item (readable p) (less p) refl (rw (p .kind-at .ensures) at (i .if2 .taken)), pre .0 .1), (pre .1 .0, along-stands (l .loop .inv .0) (pre .1 .1)))
 
 same-length-3 : tie.Need-same-length-3 Inv-loop μ-loop
-same-length-3 c = c .before .before .before .before .before .before .results .given ∙ c .before .before .before .before .before .before .before .before .before .before .before .before .before .before .before .before .before .before .before .before .loop .inv .1
+same-length-3 c = c .before .before .before .before .before .before .results .given ∙ c .before .before .before .before .before .before .before .before .before .before .before .before .before .before .before .before .loop .inv .1
 
 same-length-4 : tie.Need-same-length-4 Inv-loop μ-loop
-same-length-4 c = c .before .before .before .before .diagnostics .given ∙ c .before .before .before .before .before .before .before .before .before .before .before .before .before .before .before .before .before .before .before .before .loop .inv .2
+same-length-4 c = c .before .before .before .before .diagnostics .given ∙ c .before .before .before .before .before .before .before .before .before .before .before .before .before .before .before .before .loop .inv .2
 
 returns-2 : tie.Need-returns-2 Inv-loop μ-loop
 returns-2 c =
     let d = c .before .before .before .before .before .before .before in
     let i = d .before .before .before .before .before in
-    let p = i .before .before .before .before .before .before in
-    let one = items-next (readable p) (less p) (p .record-at .ensures) (i .before .before .before .if1 .left) (i .if2 .taken) in
+    let p = i .before .before in
+    let one = items-next (readable p) (less p) refl (rw (p .kind-at .ensures) at (i .before .if1 .left)) (rw (p .kind-at .ensures) at (i .if2 .taken)) in
     along-refused (along-other (p .before .before .loop .inv .0) one) (part-refused _ (d .lower-item .ensures) _ (c .before .lowered2 .given .1)) _ _ refl
 
 add-m-2 : tie.Need-add-m-2 Inv-loop μ-loop
-add-m-2 c = omega (arith, c .before .before .before .before .before .before .before .loop-test .taken, c .before .before .before .before .before .before .before .before .before .before .before .before .fits .count)
+add-m-2 c = omega (arith, c .before .before .before .loop-test .taken, c .before .before .before .before .before .before .before .before .fits .count)
 
 loop-less : tie.Need-loop-less Inv-loop μ-loop
-loop-less c = omega (arith, c .before .before .before .before .before .before .before .loop-test .taken)
+loop-less c = omega (arith, c .before .before .before .loop-test .taken)
 
 loop-again : tie.Need-loop-again Inv-loop μ-loop
 loop-again c =
-    let p = c .before .before .before .before .before .before in
+    let p = c .before .before in
     let l = p .before .before in
     ⊎-elim
     (λ w.
     rw (w .13, w .14, w .15, w .16, w .17) (
       along-done
-          (along-other (l .loop .inv .0) (items-next (readable p) (less p) (p .record-at .ensures) (c .before .before .before .if1 .left) (w .0 .taken)))
+          (along-other (l .loop .inv .0) (items-next (readable p) (less p) refl (rw (p .kind-at .ensures) at (c .before .if1 .left)) (rw (p .kind-at .ensures) at (w .0 .taken))))
           (part-lowered _ (w .5 .ensures) _ (w .11 .given .1)) _ refl,
       search needs,
       search needs,
     ))
     (λ w.
     rw (w .1, w .2, w .3, w .4, w .5) (
-      along-other (l .loop .inv .0) (items-next (readable p) (less p) (p .record-at .ensures) (c .before .before .before .if1 .left) (w .0 .left)),
+      along-other (l .loop .inv .0) (items-next (readable p) (less p) refl (rw (p .kind-at .ensures) at (c .before .if1 .left)) (rw (p .kind-at .ensures) at (w .0 .left))),
       l .loop .inv .1,
       l .loop .inv .2,
     ))

@@ -3,7 +3,7 @@
 -- Assumes nothing.
 use Prim.Native.Nat.{_-_, _<_}
 use mathlib.Core.Logic.{⊎-elim, inl, inr}
-use mathlib.Core.Path.{refl}
+use mathlib.Core.Path.{refl, sym, ap, _∙_}
 use native.Mathlib.Omega.{arith}
 use denote.Ref.{now}
 use borrow.Author.Needs.{needs}
@@ -33,8 +33,9 @@ returns c =
     let p = c .before .before in
     let l = p .before .before in
     let rest = c .before .match .rest in
-    sees-over (l .before .before .pre .0) (omega arith) (p .record-at .ensures) (l .loop .inv) (c .if1 .left)
-    (neither (rest .0 .0 .1) (rest .0 .1) (rest .1))
+    let is = p .kind-at .ensures in
+    sees-over (l .before .before .pre .0) (omega arith) refl (l .loop .inv) (omega (arith, c .if1 .left, is))
+    (neither (λ e. rest .0 .0 .1 (is ∙ e)) (λ e. rest .0 .1 (is ∙ e)) (rw is at (rest .1)))
 
 loop-again : tie.Need-loop-again Inv-loop μ-loop
 loop-again c =
@@ -42,16 +43,19 @@ loop-again c =
     let l = p .before .before in
     let readable = l .before .before .pre .0 in
     let less : l .loop .m < recordCount (now (l .before .before .args .book)) = omega arith in
-    let at = p .record-at .ensures in
+    let is = p .kind-at .ensures in
     let s = l .loop .inv in
     ⊎-elim
-    (λ w. rw (w .2)
-    (w .1 .ensures _ _ (p .record-at .result) (eq-eqb _ 34 (w .0 .keys1)) refl (sees-note readable less at s (inl (w .0 .keys1)))))
+    (λ w.
+    let kind = ap (λ r. r .kind) (w .1 .ensures) ∙ sym is ∙ w .0 .keys1 in
+    rw (w .3) (w .2 .ensures _ _ (w .1 .result) (eq-eqb _ 34 kind) refl (sees-note readable less (w .1 .ensures) s (inl kind))))
     (⊎-elim
-    (λ w. rw (w .2) (w .1 .ensures _ _ (eq-eqb _ 35 (w .0 .keys2)) (sees-note readable less at s (inr (w .0 .keys2)))))
+    (λ w.
+    let kind = ap (λ r. r .kind) (w .1 .ensures) ∙ sym is ∙ w .0 .keys2 in
+    rw (w .3) (w .2 .ensures _ _ (eq-eqb _ 35 kind) (sees-note readable less (w .1 .ensures) s (inr kind))))
     (⊎-elim
-    (λ w. rw (w .1) (sees-past readable less at s (w .0 .keys3)))
-    (λ w. rw (w .2) (sees-tree readable less at s (omega (arith, w .1 .taken))))))
+    (λ w. rw (w .1) (sees-past readable less refl s (rw is at (w .0 .keys3))))
+    (λ w. rw (w .2) (sees-tree readable less refl s (omega (arith, w .1 .taken, is))))))
     (c .match .came)
 
 returns-2 : tie.Need-returns-2 Inv-loop μ-loop
@@ -65,6 +69,8 @@ annotations-of-spec =
     μ-loop
     add-m
     loop-holds
+    (λ c κs. search needs)
+    (λ c κs. search needs)
     (λ c κs. search needs)
     (λ c κs. search needs)
     (λ c κs. search needs)

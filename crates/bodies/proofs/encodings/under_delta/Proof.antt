@@ -15,21 +15,21 @@ returns c = rw (not-or (c .before .before .args .delta) (c .before .before .args
 returns-2 : tie.Need-returns-2
 unfolding underInner innerOf fieldEncodingOf
 returns-2 c =
-    let a = c .before .before .before .before .args in
-    rw (not-or (a .delta) (a .e .delta) false (c .before .before .if1 .left), c .enum-told .given .1)
+    let a = c .before .before .before .before .before .args in
+    rw (← c .before .before .delta-inner .ensures, not-or (a .delta) (a .e .delta) false (c .before .before .before .if1 .left), c .enum-told .given .1)
 
 returns-3 : tie.Need-returns-3
 unfolding underInner innerOf fieldEncodingOf
 returns-3 c =
-    let a = c .before .before .before .before .args in
-    rw (not-or (a .delta) (a .e .delta) false (c .before .before .if1 .left), c .enum-told2 .given .1)
+    let a = c .before .before .before .before .before .args in
+    rw (← c .before .before .delta-inner .ensures, not-or (a .delta) (a .e .delta) false (c .before .before .before .if1 .left), c .enum-told2 .given .1)
 
 returns-4 : tie.Need-returns-4
 unfolding underInner innerOf fieldEncodingOf
 returns-4 c =
-    let a = c .before .before .before .before .before .args in
-    rw (not-or (a .delta) (a .e .delta) false (c .before .before .before .if1 .left), c .before .inner .given .1)
+    let a = c .before .before .before .before .before .before .args in
+    rw (← c .before .before .before .delta-inner .ensures, not-or (a .delta) (a .e .delta) false (c .before .before .before .before .if1 .left), c .before .base .given .1)
 
 pub under-delta-spec : {M : Type 1} → statement M
 under-delta-spec =
-    tie.close (tie.spec returns (λ c. search needs) returns-2 (λ c. search needs) (λ c. search needs) returns-3 returns-4)
+    tie.close (tie.spec returns (λ c κs. search needs) (λ c. search needs) returns-2 (λ c. search needs) (λ c. search needs) returns-3 returns-4)

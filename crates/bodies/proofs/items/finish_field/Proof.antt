@@ -10,7 +10,7 @@ use Rattle.bodies.proofs.items.finish_field.Tie as tie
 
 lower-constraint-requires : tie.Need-lower-constraint-requires
 lower-constraint-requires c κs =
-    let p = c .before .before .before .before .before .before in
+    let p = c .before .before .before .before .before in
     field-constraint (p .before .before .before .pre .0) (p .record-at .ensures)
 
 returns : tie.Need-returns
@@ -22,8 +22,7 @@ returns c numbers pairs diagnostics =
     let b = m .before .before .before .before .before .before in
     let u = b .before .before in
     let o = u .before in
-    let i = o .before in
-    let t = i .before in
+    let t = o .before in
     let p = t .before .before in
     let s = p .before .before .before in
     field-finished (s .pre .0) (p .record-at .ensures) (s .args .delta)
@@ -33,10 +32,8 @@ returns c numbers pairs diagnostics =
     _ (w .before .before .after .given .1)
     (record {
       shape = t .written-at .result;
-      inner = i .delta-inner .result;
       own = o .compute-field-encoding .result;
       shape-is = t .written-at .ensures;
-      inner-is = i .delta-inner .ensures;
       own-is = o .compute-field-encoding .ensures;
       is = u .under-delta .ensures;
     })
@@ -50,7 +47,7 @@ returns-2 c numbers pairs diagnostics =
     let e = c .before .before .before .before .before in
     let m = e .before .before in
     let b = m .before .before .before .before .before .before in
-    let p = b .before .before .before .before .before .before .before in
+    let p = b .before .before .before .before .before .before in
     let s = p .before .before .before in
     field-refused (s .pre .0) (p .record-at .ensures) (s .args .delta)
     (λ scope aliases. b .lower-constraint .ensures scope aliases numbers pairs diagnostics) _ _ (m .before .before .c .given .1) (m .carried .ensures)
@@ -61,7 +58,7 @@ returns-2 c numbers pairs diagnostics =
 returns-3 : tie.Need-returns-3
 returns-3 c numbers pairs diagnostics =
     let b = c .before .before .before .before .before in
-    let p = b .before .before .before .before .before .before .before in
+    let p = b .before .before .before .before .before .before in
     let s = p .before .before .before in
     constraint-refused (s .pre .0) (p .record-at .ensures) (s .args .delta)
     (λ scope aliases. b .lower-constraint .ensures scope aliases numbers pairs diagnostics) _ (c .before .stop2 .given .1)
@@ -70,7 +67,6 @@ pub finish-field-spec : {M : Type 1} → statement M
 finish-field-spec =
     tie.close
     (tie.spec
-    (λ c κs. search needs)
     (λ c κs. search needs)
     (λ c κs. search needs)
     (λ c κs. search needs)
