@@ -28,4 +28,4 @@ mod shims;
 use shims::{canonical, errors, remap};
 
 pub mod facts;
-pub use lower::harness::{lower_book, lower_book_in_order, lower_with_own_order, time_of_constants};
+pub use lower::harness::{lower_book, lower_book_in_order, lower_with_own_order, time_of_constants, timed};

@@ -14,6 +14,7 @@ use std::time::{Duration, Instant};
 
 mod declarations;
 mod given;
+pub mod timed;
 
 /// A record of the book.
 #[derive(Clone, Copy)]
