@@ -1,7 +1,7 @@
 -- The table of shapes: what its numbers say.
 -- Assumes nothing.
 use Prim.Native.Nat.{ℕ, zero, suc, _+_, _-_, _^_, _≤_, _<_}
-use mathlib.Core.Bool.{Bool, true, false, cond, _&&_, _||_, true≢false}
+use mathlib.Core.Bool.{Bool, true, false, cond, _&&_, _||_, true≢false, or-false}
 use mathlib.Core.List.{List, [], _∷_, map}
 use mathlib.Core.Option.{Option, some}
 use mathlib.Core.Path.{_≡_, refl, sym, ap, _∙_}
@@ -9,13 +9,13 @@ use native.Mathlib.Numerals.{add-one}
 use native.Mathlib.Omega.{arith}
 use lib.Dec.{leb, ltb, eqb}
 use lib.ListN.{length, drop, getD, List·getD-eq-default}
-use borrow.Author.Tests.{ltb-true, ltb-false, leb-false, lt-ltb, le-ltb, ne-eqb}
+use borrow.Author.Tests.{ltb-true, ltb-false, leb-false, eqb-true, eqb-false, lt-ltb, le-ltb, le-leb, lt-leb, ne-eqb}
 use Rattle.record.specs.declared.Record.{Record}
 use Rattle.book.specs.Lists.{any, find, at}
 use Rattle.book.specs.Shape.{Group, type, constant, constraint, operand, declaration, item}
 use Rattle.book.specs.Shape.{Field, unused, flag, bits, name, name?, string, string?, ordinal, free, child, child?}
-use Rattle.book.specs.Shape.{Row, table, isRow, rowOf, allows, fits, childIn, groupNumber, inGroup, isOf}
-use Rattle.book.specs.Rows.{rowAt, firstRow, fieldNumber, numbersOf, cellIn, groupIn}
+use Rattle.book.specs.Shape.{Row, table, isRow, rowOf, allows, fits, childIn, groupNumber}
+use Rattle.book.specs.Rows.{rowAt, firstRow, fieldNumber, numbersOf, cellIn, groupIn, lasts, lastIn, ShapeTable}
 
 -- an element that is there stands at its number, and each number below the length has one
 module _ {A B : Type 0} (f : A → B) (d : B) where
@@ -105,11 +105,13 @@ module _ {A : Type 0} (test : A → Bool) where
 unfoldable pub numbers : List (List ℕ)
 numbers = map numbersOf table
 
-pub cell-is : (i k : ℕ) → i < 38 → getD (getD numbers i []) k 0 ≡ cellIn (rowAt i) k
+pub shapes-are : ShapeTable numbers
 unfolding rowAt numbers
-cell-is i k less =
-    let (w, e) = row-below i less in
-    ap (λ l. getD l k 0) (at-map numbersOf [] table i e) ∙ sym (cell-there i e k)
+shapes-are = record {
+  cells = λ i k less.
+      let (w, e) = row-below i less in
+      ap (λ l. getD l k 0) (at-map numbersOf [] table i e) ∙ sym (cell-there i e k);
+}
 
 -- a record is of a row, by the cells of the row
 pub in-row :
@@ -181,51 +183,59 @@ pub row-end : (r : Record) → rowFrom r 38 ≡ rowAt 38
 unfolding rowAt
 row-end r = rw (← rows) (find-end _ table)
 
--- the record is of the group whose number stands in its row
-pub group-is :
-    {n m : ℕ} (r : Record) (i : ℕ) → i < 38 → rowAt i ≡ rowOf r → m ≡ cellIn (rowAt i) 0 →
-    (g : Group) → n ≡ groupNumber g → eqb n m ≡ isOf g r
-unfolding isOf
-group-is r i less here cell g is =
-    let (w, e) = row-below i less in
-    let first = cell ∙ cell-there i e 0 in
-    (λ j. eqb (is j) (first j)) ∙ ap (inGroup g) (sym e ∙ here)
-
-pub group-none : {i : ℕ} (r : Record) → i ≡ 38 → rowAt i ≡ rowOf r → (g : Group) → false ≡ isOf g r
-unfolding isOf rowAt table at
-group-none r end here g = ap (inGroup g) (ap rowAt (sym end) ∙ here)
-
--- what fields 0 to 7 ask of a value; the others ask nothing
-abbrev pub asked : ℕ → List Bool
-asked x =
-    eqb x 0 ∷ ltb x 2 ∷ ltb x 256 ∷ ltb x 4096 ∷ (ltb x 4096 || eqb x 65535) ∷ ltb x 65535 ∷ true ∷ ltb x (2 ^ 32) ∷ []
-
-asked-is : (g : Field) (x : ℕ) → getD (asked x) (fieldNumber g) true ≡ allows g x
-unfolding fieldNumber allows
-asked-is unused x = refl
-asked-is flag x = refl
-asked-is bits x = refl
-asked-is name x = refl
-asked-is name? x = refl
-asked-is string x = refl
-asked-is string? x = refl
-asked-is ordinal x = refl
-asked-is free x = refl
-asked-is (child g) x = List·getD-eq-default (asked x) true {n = 10 + groupNumber g} (omega arith)
-asked-is (child? g) x = List·getD-eq-default (asked x) true {n = 20 + groupNumber g} (omega arith)
-
-pub allowed : {f : ℕ} (k x : ℕ) → f ≡ k → (g : Field) → f ≡ fieldNumber g → getD (asked x) k true ≡ allows g x
-allowed k x is g e = ap (λ n. getD (asked x) n true) (sym is ∙ e) ∙ asked-is g x
+-- fields past the list have all 64 bits, and so has every field but 0 to 5 and 7
+past-list : (f : ℕ) → 8 ≤ f → lastIn f ≡ 2 ^ 64 - 1
+past-list f high = List·getD-eq-default lasts (2 ^ 64 - 1) {n = f} high
 
 pub past-three : {k : ℕ} → (k ≡ 0 → ⊥) → (k ≡ 1 → ⊥) → (k ≡ 2 → ⊥) → (k ≡ 3 → ⊥) → 3 < k
 past-three p q r s = omega arith
 
-pub allowed-else : (x k : ℕ) → 3 < k → (k ≡ 4 → ⊥) → (k ≡ 5 → ⊥) → (k ≡ 7 → ⊥) → getD (asked x) k true ≡ true
-allowed-else x k h p q r = go (ltb k 8) refl
+pub last-else : (k : ℕ) → 3 < k → (k ≡ 4 → ⊥) → (k ≡ 5 → ⊥) → (k ≡ 7 → ⊥) → 2 ^ 64 - 1 ≡ lastIn k
+last-else k h p q r = go (ltb k 8) refl
   where
-    go : (b : Bool) → ltb k 8 ≡ b → getD (asked x) k true ≡ true
-    go true t = let six : k ≡ 6 = omega (arith, ltb-true k 8 t) in ap (λ n. getD (asked x) n true) six
-    go false t = List·getD-eq-default (asked x) true {n = k} (ltb-false k 8 t)
+    go : (b : Bool) → ltb k 8 ≡ b → 2 ^ 64 - 1 ≡ lastIn k
+    go true t = let six : 6 ≡ k = omega (arith, ltb-true k 8 t) in ap lastIn six
+    go false t = sym (past-list k (ltb-false k 8 t))
+
+-- up to a number is below the next one
+up-to : (x k : ℕ) → leb x k ≡ ltb x (suc k)
+up-to x k = go (ltb x (suc k)) refl
+  where
+    go : (b : Bool) → ltb x (suc k) ≡ b → leb x k ≡ b
+    go true t = le-leb x k (omega (arith, ltb-true x (suc k) t))
+    go false t = lt-leb x k (omega (arith, ltb-false x (suc k) t))
+
+up-to-zero : (x : ℕ) → leb x 0 ≡ eqb x 0
+up-to-zero x = go (eqb x 0) refl
+  where
+    go : (b : Bool) → eqb x 0 ≡ b → leb x 0 ≡ b
+    go true t = le-leb x 0 (omega (arith, eqb-true x 0 t))
+    go false t = lt-leb x 0 (let other = eqb-false x 0 t in omega arith)
+
+-- what a field may hold, by its number
+abbrev allowedBy : ℕ → ℕ → Bool
+allowedBy f x = leb x (lastIn f) || eqb f 4 && eqb x 65535
+
+-- a field past the list may hold all that there is
+past : (f x : ℕ) → 8 ≤ f → x < 2 ^ 64 → allowedBy f x ≡ true
+past f x high low = rw (past-list f high, le-leb x (2 ^ 64 - 1) (omega arith))
+
+allowed-is : (g : Field) (x : ℕ) → x < 2 ^ 64 → allowedBy (fieldNumber g) x ≡ allows g x
+unfolding fieldNumber allows
+allowed-is unused x low = or-false (leb x 0) ∙ up-to-zero x
+allowed-is flag x low = or-false (leb x 1) ∙ up-to x 1
+allowed-is bits x low = or-false (leb x 255) ∙ up-to x 255
+allowed-is name x low = or-false (leb x 4095) ∙ up-to x 4095
+allowed-is name? x low = ap (λ b. b || eqb x 65535) (up-to x 4095)
+allowed-is string x low = or-false (leb x 65534) ∙ up-to x 65534
+allowed-is string? x low = ap (λ b. b || false) (le-leb x (2 ^ 64 - 1) (omega arith))
+allowed-is ordinal x low = or-false (leb x (2 ^ 32 - 1)) ∙ up-to x (2 ^ 32 - 1)
+allowed-is free x low = past 8 x (omega arith) low
+allowed-is (child g) x low = past (10 + groupNumber g) x (omega arith) low
+allowed-is (child? g) x low = past (20 + groupNumber g) x (omega arith) low
+
+pub allowed : {f last : ℕ} (x : ℕ) → x < 2 ^ 64 → last ≡ lastIn f → (g : Field) → f ≡ fieldNumber g → leb x last || eqb f 4 && eqb x 65535 ≡ allows g x
+allowed {f} x low is g e = ap (λ m. leb x m || eqb f 4 && eqb x 65535) is ∙ ap (λ n. allowedBy n x) e ∙ allowed-is g x low
 
 pub fits-by :
     (r : Record) (i : ℕ) {x y z u : Bool} → i < 38 →

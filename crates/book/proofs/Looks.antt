@@ -24,13 +24,13 @@ use Rattle.book.specs.Blocks.{recordCount, records}
 use Rattle.book.specs.Faults.{recordOf, shapeFault, childFault, before, mayFollow, followFault, nameFault, depthFault}
 use Rattle.book.specs.Refusal.{Cause, Refusal, shape, child, follow, name, depth, at, faulty, atRecord, holds}
 use Rattle.book.specs.Answer.{causeOf, refusalOf}
-use Rattle.book.specs.Rows.{rowAt}
-use Rattle.book.specs.Tables.{following, Used, Takes, Names, Depths, deepestOf, Counted, Placed, Kept, Ready, Looked}
+use Rattle.book.specs.Rows.{rowAt, cellIn}
+use Rattle.book.specs.Tables.{following, Roots, Takes, Names, Depths, deepestOf, Counted, Placed, Kept, Ready, Looked}
 use Rattle.book.proofs.Trees.{both-not, none-passes}
 use Rattle.book.proofs.Records.{records-length, record-here}
 use Rattle.book.proofs.Scans.{Passed, scan-here, scan-on}
 use Rattle.book.proofs.Places.{before-next}
-use Rattle.book.proofs.Marks.{used-next, child-fault}
+use Rattle.book.proofs.Marks.{roots-next, child-fault}
 use Rattle.book.proofs.Levels.{depth-fault, depths-next, deepest-few}
 
 -- the first that holds of causes 4 to 8 at record n
@@ -60,8 +60,8 @@ module _ (book : List ℕ) (n : ℕ) where
 
 -- a fault that is the first is told, and nothing is asked of the tables
 pub turned-back :
-    {book : List ℕ} {n : ℕ} {x : Fault} {used names : List Bool} {depths : List ℕ} (c : code.Cause) →
-    find (holds book) (atRecord n) ≡ some (at (causeOf c) n) → x ≡ At c n → Looked book n x used names depths
+    {book : List ℕ} {n : ℕ} {x : Fault} {roots names depths : List ℕ} (c : code.Cause) →
+    find (holds book) (atRecord n) ≡ some (at (causeOf c) n) → x ≡ At c n → Looked book n x roots names depths
 unfolding refusalOf
 turned-back c first e =
     let is = ap refusalOf e in
@@ -69,8 +69,8 @@ turned-back c first e =
 
 -- what is learnt of record n, which is r, in turn; `row` is the number of its row
 module _
-    {book : List ℕ} {n : ℕ} {r : Record} {p : Place} {used₀ names₀ : List Bool} {depths₀ : List ℕ}
-    (ready : Ready book n r p used₀ names₀ depths₀) (row : ℕ) where
+    {book : List ℕ} {n : ℕ} {r : Record} {p : Place} {roots₀ names₀ depths₀ : List ℕ}
+    (ready : Ready book n r p roots₀ names₀ depths₀) (row : ℕ) where
   abbrev rs : List Record
   rs = records book
 
@@ -79,19 +79,19 @@ module _
     pub found : rowAt row ≡ rowOf r
     pub fitting : fits r (rowAt row) ≡ true
 
-  -- and so are its children, which are marked
-  pub record Right (used : List Bool) : Type 0 where
+  -- and so are its children, which are roots no more
+  pub record Right (roots : List ℕ) : Type 0 where
     pub shaped : Shaped
-    pub taken : Takes rs n [] (childrenBy r (rowAt row)) false used
+    pub taken : Takes rs n [] (childrenBy r (rowAt row)) false roots
 
   -- and it may stand where it stands
-  pub record Stands (used : List Bool) : Type 0 where
-    pub right : Right used
+  pub record Stands (roots : List ℕ) : Type 0 where
+    pub right : Right roots
     pub follows : mayFollow r (before rs n) ≡ true
 
   -- and declares no name again
-  pub record New (used : List Bool) : Type 0 where
-    pub stands : Stands used
+  pub record New (roots : List ℕ) : Type 0 where
+    pub stands : Stands roots
     pub new : nameFault rs n ≡ false
 
   -- the fault of record n that comes first
@@ -123,8 +123,8 @@ module _
     no-row e = not-shaped (ap (λ k. fits r (rowAt k)) e)
 
 module _
-    {book : List ℕ} {n : ℕ} {r : Record} {p : Place} {used₀ names₀ : List Bool} {depths₀ : List ℕ}
-    {ready : Ready book n r p used₀ names₀ depths₀} {row : ℕ} where
+    {book : List ℕ} {n : ℕ} {r : Record} {p : Place} {roots₀ names₀ depths₀ : List ℕ}
+    {ready : Ready book n r p roots₀ names₀ depths₀} {row : ℕ} where
   module _ (s : Shaped ready row) where
     pub well-shaped : wellShaped r ≡ true
     well-shaped = subst (λ r. wellShaped r ≡ true) (sym (ready .is)) (shaped-by ready row (s .found) (s .fitting))
@@ -133,38 +133,38 @@ module _
     unfolding shapeFault
     shaped = ap not (shaped-by ready row (s .found) (s .fitting))
 
-    taken-by : {w : Bool} {used : List Bool} → Takes (records book) n [] (childrenBy r (rowAt row)) w used → childFault (records book) n ≡ w
-    taken-by {w} {used} t =
-        sym (child-fault (records book) n w used
-        (subst (λ cs. Takes (records book) n [] cs w used) (children-by ready row (s .found)) t))
+    taken-by : {w : Bool} {roots : List ℕ} → Takes (records book) n [] (childrenBy r (rowAt row)) w roots → childFault (records book) n ≡ w
+    taken-by {w} {roots} t =
+        sym (child-fault (records book) n w roots
+        (subst (λ cs. Takes (records book) n [] cs w roots) (children-by ready row (s .found)) t))
 
     pub wrong-child :
-        {w : Bool} {used : List Bool} → Takes (records book) n [] (childrenBy r (rowAt row)) w used → w ≡ true → Faulty ready row Child
+        {w : Bool} {roots : List ℕ} → Takes (records book) n [] (childrenBy r (rowAt row)) w roots → w ≡ true → Faulty ready row Child
     unfolding firstOf causeOf
     wrong-child t e = first-is book n shaped (taken-by t ∙ e) refl refl refl
 
     pub right-children :
-        {w : Bool} {used : List Bool} → Takes (records book) n [] (childrenBy r (rowAt row)) w used → w ≡ false → Right ready row used
-    right-children {used = used} t e =
-        record { shaped = s; taken = subst (λ w. Takes (records book) n [] (childrenBy r (rowAt row)) w used) e t }
+        {w : Bool} {roots : List ℕ} → Takes (records book) n [] (childrenBy r (rowAt row)) w roots → w ≡ false → Right ready row roots
+    right-children {roots = roots} t e =
+        record { shaped = s; taken = subst (λ w. Takes (records book) n [] (childrenBy r (rowAt row)) w roots) e t }
 
-  module _ {used : List Bool} where
-    right : Right ready row used → childFault (records book) n ≡ false
+  module _ {roots : List ℕ} where
+    right : Right ready row roots → childFault (records book) n ≡ false
     right t = taken-by (t .shaped) (t .taken)
 
-    pub not-following : Right ready row used → mayFollow r (before (records book) n) ≡ false → Faulty ready row Follow
+    pub not-following : Right ready row roots → mayFollow r (before (records book) n) ≡ false → Faulty ready row Follow
     unfolding firstOf causeOf
     not-following t e = first-is book n (shaped (t .shaped)) (right t) (followed-by ready row e) refl refl
 
-    pub named-again : Stands ready row used → nameFault (records book) n ≡ true → Faulty ready row Name
+    pub named-again : Stands ready row roots → nameFault (records book) n ≡ true → Faulty ready row Name
     unfolding firstOf causeOf
     named-again t e = first-is book n (shaped (t .right .shaped)) (right (t .right)) (followed-by ready row (t .follows)) e refl
 
-    module _ (t : New ready row used) {d : ℕ} (deepest : d ≡ deepestOf depths₀ (childrenBy r (rowAt row))) where
+    module _ (t : New ready row roots) {d : ℕ} (deepest : d ≡ deepestOf depths₀ (childrenBy r (rowAt row))) where
       abbrev tooDeep : Bool
       tooDeep = cond (ltb (r .kind) 20) (leb 64 d) (ltb 64 d)
 
-      abbrev of : Right ready row used
+      abbrev of : Right ready row roots
       of = t .stands .right
 
       same-children : childrenBy r (rowAt row) ≡ children (recordOf (records book) n)
@@ -193,16 +193,17 @@ module _
       not-deeper false d e = omega (arith, ltb-false 64 d e)
 
       pub passed :
-          {names : List Bool} (x : Fault) → x ≡ Nothing → tooDeep ≡ false → Names (records book) (suc n) names →
-          Looked book n x used names (set depths₀ n (d + 1))
+          {names : List ℕ} {group : ℕ} (x : Fault) → x ≡ Nothing → tooDeep ≡ false → Names (records book) (suc n) names →
+          group ≡ cellIn (rowAt row) 0 → Looked book n x (set roots n group) names (set depths₀ n (d + 1))
       unfolding firstOf refusalOf
-      passed x nothing e named =
+      passed x nothing e named grouped =
           record {
             fault-is = ap refusalOf nothing ∙ sym (first-by e);
             kept = λ h. record {
-              used-is =
-                  used-next (records book) n used
-                  (subst (λ cs. Used (records book) n cs used) same-children (of .taken .marked refl));
+              roots-are =
+                  roots-next (records book) n roots (omega arith) earlier
+                  (grouped ∙ ap (λ o. cellIn o 0) (of .shaped .found) ∙ ap (λ r. cellIn (rowOf r) 0) (ready .is))
+                  (subst (λ cs. Roots (records book) n cs roots) same-children (of .taken .left refl));
               names-are = named;
               depths-are =
                   subst (λ k. Depths (records book) (suc n) (set depths₀ n (k + 1))) (sym deepest-is)
@@ -213,15 +214,15 @@ module _
 
 -- record n is one of the records
 pub less :
-    {book : List ℕ} {n : ℕ} {r : Record} {p : Place} {used names : List Bool} {depths : List ℕ} →
-    Ready book n r p used names depths → n < length (records book)
+    {book : List ℕ} {n : ℕ} {r : Record} {p : Place} {roots names depths : List ℕ} →
+    Ready book n r p roots names depths → n < length (records book)
 less {book} ready = omega (arith, records-length book, ready .here .within)
 
 -- before record n is looked at
 pub ready :
-    {book : List ℕ} {count n : ℕ} {r : Record} {p : Place} {used names : List Bool} {depths : List ℕ} →
-    Counted book count → n < count → r ≡ recordAt book n → Placed (before (records book) n) p → Kept book n used names depths →
-    Ready book n r p used names depths
+    {book : List ℕ} {count n : ℕ} {r : Record} {p : Place} {roots names depths : List ℕ} →
+    Counted book count → n < count → r ≡ recordAt book n → Placed (before (records book) n) p → Kept book n roots names depths →
+    Ready book n r p roots names depths
 ready {book} {n = n} counted less is placed kept =
     let here : n < recordCount book = omega arith in
     record {
@@ -232,11 +233,11 @@ ready {book} {n = n} counted less is placed kept =
     }
 
 -- after record n is looked at and passed: it is well shaped, and it may stand where it stands
-pub record Passes (book : List ℕ) (n : ℕ) (used names : List Bool) (depths : List ℕ) : Type 0 where
+pub record Passes (book : List ℕ) (n : ℕ) (roots names depths : List ℕ) : Type 0 where
   pub none-found : find (holds book) (atRecord n) ≡ none
   pub is-shaped : wellShaped (recordOf (records book) n) ≡ true
   pub may-follow : mayFollow (recordOf (records book) n) (before (records book) n) ≡ true
-  pub kept : Kept book (suc n) used names depths
+  pub kept : Kept book (suc n) roots names depths
 
 -- none of the five holds
 none-holds : (n : ℕ) (s c f m d : Bool) → firstOf n s c f m d ≡ none → (s ≡ false) × (f ≡ false)
@@ -247,8 +248,8 @@ none-holds n false false true m d e = absurd (Option·some-ne-none _ e)
 none-holds n false false false m d e = (refl, refl)
 
 pub passes :
-    {book : List ℕ} {n : ℕ} {x : Fault} {used names : List Bool} {depths : List ℕ} →
-    Looked book n x used names depths → x ≡ Nothing → Passes book n used names depths
+    {book : List ℕ} {n : ℕ} {x : Fault} {roots names depths : List ℕ} →
+    Looked book n x roots names depths → x ≡ Nothing → Passes book n roots names depths
 unfolding refusalOf shapeFault followFault
 passes {book} {n} looked nothing =
     let is = ap refusalOf nothing in
@@ -258,8 +259,8 @@ passes {book} {n} looked nothing =
 
 -- the loop over the records: record n has the first fault
 pub found-here :
-    {book : List ℕ} {count n : ℕ} {x : Fault} {used names : List Bool} {depths : List ℕ} →
-    Looked book n x used names depths → n < count → Passed (holds book) atRecord n count → (c : code.Cause) (p : ℕ) → x ≡ At c p →
+    {book : List ℕ} {count n : ℕ} {x : Fault} {roots names depths : List ℕ} →
+    Looked book n x roots names depths → n < count → Passed (holds book) atRecord n count → (c : code.Cause) (p : ℕ) → x ≡ At c p →
     refusalOf x ≡ find (holds book) (flatMap atRecord (upTo count))
 unfolding refusalOf
 found-here {book} {count} {n} looked less inv c p e =
@@ -268,10 +269,10 @@ found-here {book} {count} {n} looked less inv c p e =
 
 -- record n is passed, and the place behind it is p′
 pub gone-on :
-    {book : List ℕ} {count n : ℕ} {r : Record} {p p′ : Place} {used₀ names₀ used names : List Bool} {depths₀ depths : List ℕ} →
-    Ready book n r p used₀ names₀ depths₀ → Passes book n used names depths → n < count → Passed (holds book) atRecord n count →
+    {book : List ℕ} {count n : ℕ} {r : Record} {p p′ : Place} {roots₀ names₀ depths₀ roots names depths : List ℕ} →
+    Ready book n r p roots₀ names₀ depths₀ → Passes book n roots names depths → n < count → Passed (holds book) atRecord n count →
     ((bs : List Record) → Placed bs p → wellShaped r ≡ true → mayFollow r bs ≡ true → Placed (following r bs) p′) →
-    Passed (holds book) atRecord (n + 1) count × Placed (before (records book) (n + 1)) p′ × Kept book (n + 1) used names depths
+    Passed (holds book) atRecord (n + 1) count × Placed (before (records book) (n + 1)) p′ × Kept book (n + 1) roots names depths
 gone-on {book} {count} {n} {r} {p′ = p′} ready passes less inv next =
     let rs = records book in
     let shaped = subst (λ r. wellShaped r ≡ true) (sym (ready .is)) (passes .is-shaped) in

@@ -1,23 +1,23 @@
--- Which records are used as children.
+-- Which records are used as children, and which are left as roots.
 -- Assumes nothing.
 use Prim.Native.Nat.{ℕ, zero, suc, _+_, _≤_, _<_}
-use mathlib.Core.Bool.{Bool, true, false, not, _||_, or-assoc, or-comm, or-false, or-true, true≢false}
+use mathlib.Core.Bool.{Bool, true, false, cond, not, _||_, or-assoc, or-comm, or-false, or-true, true≢false}
 use mathlib.Core.List.{List, [], _∷_, _++_, append-nil, append-assoc}
-use mathlib.Core.Option.{some}
+use mathlib.Core.Option.{Option, some, none}
 use mathlib.Core.Path.{_≡_, refl, sym, ap, ap₂, _∙_}
 use native.Mathlib.Decide.{ℕ-discrete}
 use native.Mathlib.Omega.{arith}
 use lib.Dec.{leb, eqb}
-use lib.ListN.{length, getD, set, replicate, length-set, length-replicate, getD-replicate}
+use lib.ListN.{length, getD, set, replicate, length-set, length-replicate}
 use lib.Seq.{getD-set-same, getD-set-other}
 use borrow.Author.Tests.{leb-false, le-leb, lt-leb, eq-eqb, ne-eqb}
 use Rattle.record.specs.declared.Record.{Record}
-use Rattle.book.specs.Lists.{any, from, upTo}
+use Rattle.book.specs.Lists.{All, any, from, upTo}
 use Rattle.book.specs.Shape.{Group, Field, unused, flag, bits, name, name?, string, string?, ordinal, free, child, child?}
-use Rattle.book.specs.Shape.{Row, Child, childIn, childrenBy, children, groupNumber, isOf}
+use Rattle.book.specs.Shape.{Row, Child, childIn, childrenBy, children, rowOf, groupNumber, inGroup, isOf}
 use Rattle.book.specs.Faults.{recordOf, uses, usedBefore, usedTwice, isWrong, childFault}
 use Rattle.book.specs.Rows.{rowAt, fieldNumber, cellIn, groupIn}
-use Rattle.book.specs.Tables.{Used, usedAgain, Takes}
+use Rattle.book.specs.Tables.{Roots, usedAgain, Takes}
 use Rattle.book.proofs.Lists.{any-append, any-one, any-more}
 use Rattle.book.proofs.Cells.{field-a, field-b, field-c, group-some}
 
@@ -37,24 +37,17 @@ used-before-next rs n k =
     ap (any (λ m. uses k (recordOf rs m))) (up-to-last n)
     ∙ any-more (λ m. uses k (recordOf rs m)) (upTo n) n
 
--- before the first record none is used
-pub used-start : (rs : List Record) → Used rs 0 [] (replicate 1344 false)
+-- before the first record there is no root
+pub roots-start : (rs : List Record) → Roots rs 0 [] (replicate 1344 0)
 unfolding usedBefore any from
-used-start rs = record { long = length-replicate 1344 false; marks = λ k less. getD-replicate 1344 k false false less }
+roots-start rs =
+    record { long = length-replicate {A = ℕ} 1344 0; groups = λ k less. absurd (omega arith); later = λ k late. refl }
 
--- all the children of n are marked: those of the records before the next are
-pub used-next : (rs : List Record) (n : ℕ) (used : List Bool) → Used rs n (children (recordOf rs n)) used → Used rs (suc n) [] used
-unfolding uses any
-used-next rs n used u = record {
-  long = u .long;
-  marks = λ k less. u .marks k less ∙ sym (used-before-next rs n k) ∙ sym (or-false (usedBefore rs (suc n) k));
-}
-
--- whether two of some children have one number does not depend on which is asked first
-same-number : (x c : Child) → eqb (x .number) (c .number) ≡ eqb (c .number) (x .number)
-same-number x c = go (ℕ-discrete (x .number) (c .number))
+-- whether two numbers are the same does not depend on which is asked first
+same-number : (x y : ℕ) → eqb x y ≡ eqb y x
+same-number x y = go (ℕ-discrete x y)
   where
-    go : Dec (x .number ≡ c .number) → eqb (x .number) (c .number) ≡ eqb (c .number) (x .number)
+    go : Dec (x ≡ y) → eqb x y ≡ eqb y x
     go (yes e) = eq-eqb _ _ e ∙ sym (eq-eqb _ _ (sym e))
     go (no ne) = ne-eqb _ _ ne ∙ sym (ne-eqb _ _ (λ e. ne (sym e)))
 
@@ -91,7 +84,7 @@ among-append cs ds new =
     ∙ any-or (λ c. any (isNumber (c .number)) cs) (λ c. any (isNumber (c .number)) ds) new
 
 among-one : (x : Child) (new : List Child) → among (x ∷ []) new ≡ any (isNumber (x .number)) new
-among-one x new = λ i. any (λ (c : Child). (any-one (isNumber (c .number)) x ∙ same-number x c) i) new
+among-one x new = λ i. any (λ (c : Child). (any-one (isNumber (c .number)) x ∙ same-number (x .number) (c .number)) i) new
 
 used-twice-append : (cs new : List Child) → usedTwice (cs ++ new) ≡ usedTwice cs || usedTwice new || among cs new
 unfolding usedTwice
@@ -129,29 +122,48 @@ module _ (rs : List Record) (n : ℕ) where
 
   -- behind a wrong child the others count no more
   then-wrong :
-      {cs new : List Child} {w : Bool} {used : List Bool} (more : List Child) (used′ : List Bool) →
-      w ≡ true → Takes rs n cs new w used → Takes rs n cs (new ++ more) true used′
-  then-wrong {cs} {new} more used′ is t = record {
+      {cs new : List Child} {w : Bool} {roots : List ℕ} (more : List Child) (roots′ : List ℕ) →
+      w ≡ true → Takes rs n cs new w roots → Takes rs n cs (new ++ more) true roots′
+  then-wrong {cs} {new} more roots′ is t = record {
     wrong-is = ap (λ b. b || wrong (cs ++ new) more) (sym is ∙ t .wrong-is) ∙ sym (wrong-append cs new more);
-    marked = λ e. absurd (true≢false e);
+    left = λ e. absurd (true≢false e);
   }
 
   -- behind right children it is the others
   then-right :
-      {cs new more : List Child} {v w : Bool} {used used′ : List Bool} →
-      v ≡ false → Takes rs n cs new v used → Takes rs n (cs ++ new) more w used′ → Takes rs n cs (new ++ more) w used′
+      {cs new more : List Child} {v w : Bool} {roots roots′ : List ℕ} →
+      v ≡ false → Takes rs n cs new v roots → Takes rs n (cs ++ new) more w roots′ → Takes rs n cs (new ++ more) w roots′
   then-right {cs} {new} {more} is t u = record {
     wrong-is = u .wrong-is ∙ ap (λ b. b || wrong (cs ++ new) more) (sym is ∙ t .wrong-is) ∙ sym (wrong-append cs new more);
-    marked = λ e. rw append-assoc at (u .marked e);
+    left = λ e. rw append-assoc at (u .left e);
   }
 
--- a mark more
-set-mark : (used : List Bool) (x k : ℕ) → x < length used → getD (set used x true) k false ≡ getD used k false || eqb x k
-set-mark used x k less = go (ℕ-discrete k x)
+-- a root less
+set-none : (roots : List ℕ) (x k : ℕ) → x < length roots → getD (set roots x 0) k 0 ≡ cond (eqb x k) 0 (getD roots k 0)
+set-none roots x k less = go (ℕ-discrete k x)
   where
-    go : Dec (k ≡ x) → getD (set used x true) k false ≡ getD used k false || eqb x k
-    go (yes e) = rw (e, getD-set-same used x true false less, eq-eqb x x refl, or-true (getD used x false))
-    go (no ne) = rw (getD-set-other used x k true false ne, ne-eqb x k (λ e. ne (sym e)), or-false (getD used k false))
+    go : Dec (k ≡ x) → getD (set roots x 0) k 0 ≡ cond (eqb x k) 0 (getD roots k 0)
+    go (yes e) = rw (e, getD-set-same roots x 0 0 less, eq-eqb x x refl)
+    go (no ne) = rw (getD-set-other roots x k 0 0 ne, ne-eqb x k (λ e. ne (sym e)))
+
+none-twice : (a b : Bool) (m : ℕ) → cond a 0 (cond b 0 m) ≡ cond (b || a) 0 m
+none-twice true true m = refl
+none-twice true false m = refl
+none-twice false true m = refl
+none-twice false false m = refl
+
+-- the group of a record by number is that of a child, if the record is of its group and was not used
+of-group : (g : Group) (r : Record) → eqb (cellIn (rowOf r) 0) (groupNumber g) ≡ isOf g r
+unfolding isOf cellIn
+of-group g r = go (rowOf r)
+  where
+    go : (o : Option Row) → eqb (cellIn o 0) (groupNumber g) ≡ inGroup g o
+    go none = ne-eqb 0 (groupNumber g) (λ e. group-some g (sym e))
+    go (some w) = same-number (groupNumber (w .group)) (groupNumber g)
+
+not-root : (u : Bool) (g : Group) (r : Record) → not (eqb (cond u 0 (cellIn (rowOf r) 0)) (groupNumber g)) ≡ not (isOf g r) || u
+not-root true g r = ap not (ne-eqb 0 (groupNumber g) (λ e. group-some g (sym e))) ∙ sym (or-true (not (isOf g r)))
+not-root false g r = ap not (of-group g r) ∙ sym (or-false (not (isOf g r)))
 
 -- a field names no child, or the one with its number
 pub by-child :
@@ -176,22 +188,22 @@ by-child P x p q (child? g) = go (eqb x 65535)
 
 -- the child in a field is looked at; `group` is the number of its group, 0 for none
 module _
-    {rs : List Record} {n : ℕ} {cs : List Child} {used : List Bool} (u : Used rs n cs used) (f : Field) (x : ℕ) {group : ℕ}
+    {rs : List Record} {n : ℕ} {cs : List Child} {roots : List ℕ} (u : Roots rs n cs roots) (f : Field) (x : ℕ) {group : ℕ}
     (is : group ≡ groupIn (childIn f x)) where
-  pub take-none : group ≡ 0 → Takes rs n cs (childIn f x) false used
+  pub take-none : group ≡ 0 → Takes rs n cs (childIn f x) false roots
   unfolding any usedTwice
-  take-none none =
-      by-child (λ l. group ≡ groupIn l → Takes rs n cs l false used) x
-      (λ _. record { wrong-is = refl; marked = λ _. rw append-nil u })
-      (λ g e. absurd (group-some g (sym e ∙ none)))
+  take-none missing =
+      by-child (λ l. group ≡ groupIn l → Takes rs n cs l false roots) x
+      (λ _. record { wrong-is = refl; left = λ _. rw append-nil u })
+      (λ g e. absurd (group-some g (sym e ∙ missing)))
       f is
 
-  -- what makes a child wrong, by its mark
-  by-mark :
-      (g : Group) → n ≤ 1344 →
-      leb n x || not (isOf g (recordOf rs x)) || getD used x false ≡ wrong rs n cs (record { group = g; number = x } ∷ [])
+  -- what makes a child wrong, by the roots
+  by-root :
+      (g : Group) →
+      leb n x || not (eqb (getD roots x 0) (groupNumber g)) ≡ wrong rs n cs (record { group = g; number = x } ∷ [])
   unfolding any usedTwice
-  by-mark g few =
+  by-root g =
       go (leb n x) refl
       ∙ sym (ap₂ _||_ (any-one (isWrong rs n) c) (or-false (among cs (c ∷ [])) ∙ any-one (λ (c : Child). any (isNumber (c .number)) cs) c))
     where
@@ -200,81 +212,116 @@ module _
 
       go :
           (b : Bool) → leb n x ≡ b →
-          b || not (isOf g (recordOf rs x)) || getD used x false
+          b || not (eqb (getD roots x 0) (groupNumber g))
           ≡ b || not (isOf g (recordOf rs x)) || usedBefore rs n x || any (isNumber x) cs
       go true e = refl
       go false e =
-          ap (λ b. not (isOf g (recordOf rs x)) || b) (u .marks x (omega (arith, leb-false n x e)))
+          ap (λ m. not (eqb m (groupNumber g))) (u .groups x (omega (arith, leb-false n x e)))
+          ∙ not-root (usedBefore rs n x || any (isNumber x) cs) g (recordOf rs x)
           ∙ sym (or-assoc (not (isOf g (recordOf rs x))) (usedBefore rs n x) (any (isNumber x) cs))
 
-  -- with the child the marks are one more
-  one-more :
-      (g : Group) → x < 1344 → (k : ℕ) → k < 1344 →
-      getD (set used x true) k false ≡ usedBefore rs n k || any (isNumber k) (cs ++ (record { group = g; number = x } ∷ []))
-  one-more g low k less =
+  -- with the child the roots are one less
+  one-less :
+      (g : Group) → x < 1344 → (k : ℕ) → k < n →
+      getD (set roots x 0) k 0
+      ≡ cond (usedBefore rs n k || any (isNumber k) (cs ++ (record { group = g; number = x } ∷ []))) 0 (cellIn (rowOf (recordOf rs k)) 0)
+  one-less g low k less =
       let c : Child = record { group = g; number = x } in
-      set-mark used x k (omega (arith, u .long))
-      ∙ ap₂ _||_ (u .marks k less) (sym (any-one (isNumber k) c))
-      ∙ or-assoc (usedBefore rs n k) (any (isNumber k) cs) (any (isNumber k) (c ∷ []))
-      ∙ ap (λ b. usedBefore rs n k || b) (sym (any-append (isNumber k) cs (c ∷ [])))
+      let m : ℕ = cellIn (rowOf (recordOf rs k)) 0 in
+      set-none roots x k (omega (arith, u .long))
+      ∙ ap (λ m. cond (eqb x k) 0 m) (u .groups k less)
+      ∙ none-twice (eqb x k) (usedBefore rs n k || any (isNumber k) cs) m
+      ∙ ap (λ b. cond b 0 m)
+      (or-assoc (usedBefore rs n k) (any (isNumber k) cs) (eqb x k)
+      ∙ ap (λ b. usedBefore rs n k || b) (sym (any-more (isNumber k) cs c)))
 
   module _ (few : n ≤ 1344) (some-is : group ≡ 0 → ⊥) where
-    pub take-late : {used′ : List Bool} → n ≤ x → Takes rs n cs (childIn f x) true used′
-    take-late {used′} late =
-        by-child (λ l. group ≡ groupIn l → Takes rs n cs l true used′) x
+    taken :
+        {w : Bool} {roots′ : List ℕ} → leb n x || not (eqb (getD roots x 0) group) ≡ w →
+        (w ≡ false → (x < n) × (roots′ ≡ set roots x 0)) → Takes rs n cs (childIn f x) w roots′
+    taken {w} {roots′} found left =
+        by-child (λ l. group ≡ groupIn l → Takes rs n cs l w roots′) x
         (λ e. absurd (some-is e))
         (λ g e. record {
-          wrong-is = ap (λ b. b || not (isOf g (recordOf rs x)) || getD used x false) (sym (le-leb n x late)) ∙ by-mark g few;
-          marked = λ z. absurd (true≢false z);
+          wrong-is = sym found ∙ ap (λ m. leb n x || not (eqb (getD roots x 0) m)) e ∙ by-root g;
+          left = λ z.
+              let (early, is) = left z in
+              rw is (record { long = length-set roots x 0 ∙ u .long; groups = one-less g (omega arith); later = u .later });
         })
         f is
 
-    pub take-early :
-        {of-group w : Bool} {used′ : List Bool} → x < n →
-        ((g : Group) → group ≡ groupNumber g → of-group ≡ isOf g (recordOf rs x)) →
-        w ≡ not of-group || getD used x false → (w ≡ false → used′ ≡ set used x true) →
-        Takes rs n cs (childIn f x) w used′
-    take-early {w = w} {used′} early is-of found marks =
-        by-child (λ l. group ≡ groupIn l → Takes rs n cs l w used′) x
-        (λ e. absurd (some-is e))
-        (λ g e. record {
-          wrong-is = found ∙ ap₂ (λ a b. a || not b || getD used x false) (sym (lt-leb n x early)) (is-of g e) ∙ by-mark g few;
-          marked = λ z. rw (marks z) (record { long = length-set used x true ∙ u .long; marks = one-more g (omega arith) });
-        })
-        f is
+    pub take-late : {roots′ : List ℕ} → n ≤ x → Takes rs n cs (childIn f x) true roots′
+    take-late late =
+        taken (ap (λ b. b || not (eqb (getD roots x 0) group)) (le-leb n x late)) (λ z. absurd (true≢false z))
+
+    pub take-other : {roots′ : List ℕ} → x < n → (getD roots x 0 ≡ group → ⊥) → Takes rs n cs (childIn f x) true roots′
+    take-other early other = taken (rw (lt-leb n x early, ne-eqb _ _ other)) (λ z. absurd (true≢false z))
+
+    pub take-root : x < n → getD roots x 0 ≡ group → Takes rs n cs (childIn f x) false (set roots x 0)
+    take-root early same = taken (rw (lt-leb n x early, eq-eqb _ _ same)) (λ z. (early, refl))
 
 -- the child in field f with the value x is looked at, whatever children came before
-abbrev Looked : List Record → ℕ → ℕ → ℕ → Bool → List Bool → List Bool → Type 0
-Looked rs n f x w used used′ =
-    (g : Field) (cs : List Child) → f ≡ fieldNumber g → Used rs n cs used → Takes rs n cs (childIn g x) w used′
+abbrev Looked : List Record → ℕ → ℕ → ℕ → Bool → List ℕ → List ℕ → Type 0
+Looked rs n f x w roots roots′ =
+    (g : Field) (cs : List Child) → f ≡ fieldNumber g → Roots rs n cs roots → Takes rs n cs (childIn g x) w roots′
 
 -- the children by a row are looked at field by field, until one is wrong
 module _
-    {rs : List Record} {n : ℕ} (r : Record) (i : ℕ) {row : Row} (here : rowAt i ≡ some row) {used used₁ : List Bool} {f : ℕ} {v : Bool}
-    (u : Used rs n [] used) (is : f ≡ cellIn (rowAt i) 4) (looked : Looked rs n f (r .a) v used used₁) where
-  in-a : Takes rs n [] (childIn (row .a) (r .a)) v used₁
+    {rs : List Record} {n : ℕ} (r : Record) (i : ℕ) {row : Row} (here : rowAt i ≡ some row) {roots roots₁ : List ℕ} {f : ℕ} {v : Bool}
+    (u : Roots rs n [] roots) (is : f ≡ cellIn (rowAt i) 4) (looked : Looked rs n f (r .a) v roots roots₁) where
+  in-a : Takes rs n [] (childIn (row .a) (r .a)) v roots₁
   in-a = looked (row .a) [] (is ∙ field-a i here) u
 
-  pub wrong-a : {used′ : List Bool} → v ≡ true → Takes rs n [] (childrenBy r (rowAt i)) true used′
-  wrong-a wrong = rw here (then-wrong rs n _ _ refl (then-wrong rs n _ used₁ wrong in-a))
+  pub wrong-a : {roots′ : List ℕ} → v ≡ true → Takes rs n [] (childrenBy r (rowAt i)) true roots′
+  wrong-a wrong = rw here (then-wrong rs n _ _ refl (then-wrong rs n _ roots₁ wrong in-a))
 
   module _
-      (right : v ≡ false) {used₂ : List Bool} {g : ℕ} {w : Bool}
-      (is-b : g ≡ cellIn (rowAt i) 5) (looked-b : Looked rs n g (r .b) w used₁ used₂) where
-    in-b : Takes rs n [] (childIn (row .a) (r .a) ++ childIn (row .b) (r .b)) w used₂
-    in-b = then-right rs n right in-a (looked-b (row .b) _ (is-b ∙ field-b i here) (in-a .marked right))
+      (right : v ≡ false) {roots₂ : List ℕ} {g : ℕ} {w : Bool}
+      (is-b : g ≡ cellIn (rowAt i) 5) (looked-b : Looked rs n g (r .b) w roots₁ roots₂) where
+    in-b : Takes rs n [] (childIn (row .a) (r .a) ++ childIn (row .b) (r .b)) w roots₂
+    in-b = then-right rs n right in-a (looked-b (row .b) _ (is-b ∙ field-b i here) (in-a .left right))
 
-    pub wrong-b : {used′ : List Bool} → w ≡ true → Takes rs n [] (childrenBy r (rowAt i)) true used′
+    pub wrong-b : {roots′ : List ℕ} → w ≡ true → Takes rs n [] (childrenBy r (rowAt i)) true roots′
     wrong-b wrong = rw here (then-wrong rs n _ _ wrong in-b)
 
     pub in-c :
-        w ≡ false → {used₃ : List Bool} {h : ℕ} {x : Bool} → h ≡ cellIn (rowAt i) 6 → Looked rs n h (r .c) x used₂ used₃ →
-        Takes rs n [] (childrenBy r (rowAt i)) x used₃
+        w ≡ false → {roots₃ : List ℕ} {h : ℕ} {x : Bool} → h ≡ cellIn (rowAt i) 6 → Looked rs n h (r .c) x roots₂ roots₃ →
+        Takes rs n [] (childrenBy r (rowAt i)) x roots₃
     in-c right-b is-c looked-c =
-        rw here (then-right rs n right-b in-b (looked-c (row .c) _ (is-c ∙ field-c i here) (in-b .marked right-b)))
+        rw here (then-right rs n right-b in-b (looked-c (row .c) _ (is-c ∙ field-c i here) (in-b .left right-b)))
+
+-- no child of n is behind it
+none-later : (n k : ℕ) → n ≤ k → (cs : List Child) → All (λ c. c .number < n) cs → any (isNumber k) cs ≡ false
+unfolding any
+none-later n k late [] p = refl
+none-later n k late (c ∷ cs) p = rw (ne-eqb (c .number) k (λ e. omega (arith, p .0)), any) (none-later n k late cs (p .1))
+
+-- all the children of n are roots no more, and n is one
+pub roots-next :
+    (rs : List Record) (n : ℕ) (roots : List ℕ) {group : ℕ} → n < 1344 → All (λ c. c .number < n) (children (recordOf rs n)) →
+    group ≡ cellIn (rowOf (recordOf rs n)) 0 → Roots rs n (children (recordOf rs n)) roots → Roots rs (suc n) [] (set roots n group)
+unfolding uses any
+roots-next rs n roots {group} low earlier is u =
+    record { long = length-set roots n group ∙ u .long; groups = λ k less. groups k less (ℕ-discrete k n); later = later }
+  where
+    late : (k : ℕ) → n ≤ k → usedBefore rs (suc n) k ≡ false
+    late k low = used-before-next rs n k ∙ ap₂ _||_ (u .later k low) (none-later n k low (children (recordOf rs n)) earlier)
+
+    later : (k : ℕ) → suc n ≤ k → usedBefore rs (suc n) k ≡ false
+    later k low = late k (omega arith)
+
+    groups :
+        (k : ℕ) → k < suc n → Dec (k ≡ n) →
+        getD (set roots n group) k 0 ≡ cond (usedBefore rs (suc n) k || false) 0 (cellIn (rowOf (recordOf rs k)) 0)
+    groups k less (yes e) =
+        rw (e, getD-set-same roots n group 0 (omega (arith, u .long)), late n (omega arith)) is
+    groups k less (no ne) =
+        getD-set-other roots n k group 0 ne
+        ∙ u .groups k (omega arith)
+        ∙ ap (λ b. cond b 0 (cellIn (rowOf (recordOf rs k)) 0)) (sym (used-before-next rs n k) ∙ sym (or-false (usedBefore rs (suc n) k)))
 
 -- what is found of all children of n is cause 5
-pub child-fault : (rs : List Record) (n : ℕ) (w : Bool) (u : List Bool) → Takes rs n [] (children (recordOf rs n)) w u → w ≡ childFault rs n
+pub child-fault : (rs : List Record) (n : ℕ) (w : Bool) (u : List ℕ) → Takes rs n [] (children (recordOf rs n)) w u → w ≡ childFault rs n
 unfolding childFault
 child-fault rs n w u t =
     let cs : List Child = children (recordOf rs n) in

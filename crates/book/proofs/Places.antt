@@ -16,9 +16,10 @@ use Rattle.book.specs.Lists.{All, any, find, keep}
 use Rattle.book.specs.Shape.{Row, table, wellShaped}
 use Rattle.book.specs.Faults.{recordOf, before, isKind, isDeclaration, isUnionTombstone}
 use Rattle.book.specs.Faults.{firstIs, follows, under, variantOpen, fieldsGoHere, mayFollow}
-use Rattle.book.specs.Follow.{isOneOf, behind, followOf}
+use Rattle.book.specs.Follow.{isOneOf, behind, followOf, FollowTable}
 use Rattle.book.specs.Tables.{Placed, kindOr0, following, hasRoom, openBehind}
 use Rattle.book.proofs.Lists.{itself}
+use Rattle.book.proofs.Filled.{tab, table-at}
 use Rattle.book.proofs.Members.{keep-mem, any-mem, of-all}
 use Rattle.book.proofs.Trees.{not-so, both-so, none-passes, shaped-row, withKind}
 
@@ -54,6 +55,10 @@ before-next rs n less =
         (b : Bool) → reverse (cond b (recordOf rs n ∷ []) []) ++ before rs n ≡ cond b (recordOf rs n ∷ before rs n) (before rs n)
     last true = refl
     last false = refl
+
+-- the code's table converts to the one that the rule fills
+pub follow-is : FollowTable (tab (λ b. tab (followOf b) 0 37) 0 37)
+follow-is = record { cells = table-at followOf false 37 37 }
 
 -- a number that is one of some
 pub one-of : (P : ℕ → Type 0) (l : List ℕ) (k : ℕ) → isOneOf l k ≡ true → All P l → P k

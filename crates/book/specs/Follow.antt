@@ -1,9 +1,11 @@
 -- Which kinds stand behind which, as far as the kind of the record before tells: what the code's table holds.
 -- Assumes nothing.
-use Prim.Native.Nat.{ℕ}
-use mathlib.Core.Bool.{Bool, cond, _&&_}
+use Prim.Native.Nat.{ℕ, _<_}
+use mathlib.Core.Bool.{Bool, false, cond, _&&_}
 use mathlib.Core.List.{List, [], _∷_}
+use mathlib.Core.Path.{_≡_}
 use lib.Dec.{leb, eqb}
+use lib.ListN.{getD}
 use Rattle.book.specs.Lists.{any}
 
 -- a number is one of some
@@ -25,3 +27,7 @@ behind k =
 -- kind k may stand behind kind b
 unfoldable pub followOf : ℕ → ℕ → Bool
 followOf b k = isOneOf (behind k) b
+
+-- the code's table is the rule, cell by cell: rows by the kind before, columns by the kind at hand
+pub record FollowTable (t : List (List Bool)) : Type 0 where
+  pub cells : (b k : ℕ) → b < 37 → k < 37 → getD (getD t b []) k false ≡ followOf b k

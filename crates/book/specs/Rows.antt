@@ -1,9 +1,10 @@
 -- How the code's table of shapes writes the rows: by numbers.
 -- Assumes nothing.
-use Prim.Native.Nat.{ℕ, suc, _+_}
+use Prim.Native.Nat.{ℕ, suc, _+_, _-_, _^_, _<_}
 use mathlib.Core.Bool.{true, false}
 use mathlib.Core.List.{List, [], _∷_}
 use mathlib.Core.Option.{Option, some, none}
+use mathlib.Core.Path.{_≡_}
 use lib.Dec.{eqb}
 use lib.ListN.{getD}
 use Rattle.book.specs.Lists.{at}
@@ -33,6 +34,14 @@ fieldNumber free = 8
 fieldNumber (child g) = 10 + groupNumber g
 fieldNumber (child? g) = 20 + groupNumber g
 
+-- the last values that fields 0 to 7 may hold, apart from the one that stands for no name; 2^64 - 1 where any will do
+abbrev pub lasts : List ℕ
+lasts = 0 ∷ 1 ∷ 255 ∷ 4095 ∷ 4095 ∷ 65534 ∷ (2 ^ 64 - 1) ∷ (2 ^ 32 - 1) ∷ []
+
+-- the last value that a field may hold, by its number
+abbrev pub lastIn : ℕ → ℕ
+lastIn f = getD lasts f (2 ^ 64 - 1)
+
 -- a row by its numbers
 abbrev pub numbersOf : Row → List ℕ
 numbersOf w =
@@ -43,6 +52,10 @@ numbersOf w =
 unfoldable pub cellIn : Option Row → ℕ → ℕ
 cellIn none i = 0
 cellIn (some w) i = getD (numbersOf w) i 0
+
+-- the code's table has the rows by number, cell by cell
+pub record ShapeTable (t : List (List ℕ)) : Type 0 where
+  pub cells : (i k : ℕ) → i < 38 → getD (getD t i []) k 0 ≡ cellIn (rowAt i) k
 
 -- the group of the first of some children by number, 0 where there is none
 abbrev pub groupIn : List Child → ℕ

@@ -1,6 +1,6 @@
 -- What the working tables of the reading hold when record n is looked at.
 -- Assumes nothing.
-use Prim.Native.Nat.{ℕ, suc, _+_, _*_, _≤_, _<_, max}
+use Prim.Native.Nat.{ℕ, zero, suc, _/_, _%_, _^_, _≤_, _<_, max}
 use mathlib.Core.Bool.{Bool, true, false, cond, not, _&&_, _||_}
 use mathlib.Core.List.{List, [], _∷_, _++_}
 use mathlib.Core.Option.{Option, some, none}
@@ -11,7 +11,8 @@ use Rattle.record.specs.declared.Record.{Record}
 use Rattle.book.specs.declared.fault.Fault.{Fault}
 use Rattle.book.specs.declared.follow.Place.{Place}
 use Rattle.book.specs.Lists.{any, find}
-use Rattle.book.specs.Shape.{Child}
+use Rattle.book.specs.Shape.{Child, rowOf}
+use Rattle.book.specs.Rows.{cellIn}
 use Rattle.book.specs.Follow.{isOneOf, followOf}
 use Rattle.book.specs.Blocks.{recordCount, records}
 use Rattle.book.specs.Faults.{recordOf, usedBefore, isWrong, usedTwice, before, isKind, isDeclaration, isUnionTombstone, variantOpen}
@@ -29,26 +30,39 @@ pub record Counted (book : List ℕ) (count : ℕ) : Type 0 where
   pub all : count ≡ recordCount book
   pub few : count ≤ 1344
 
--- used: the children of the records before n, and those of n in `cs`
-pub record Used (rs : List Record) (n : ℕ) (cs : List Child) (used : List Bool) : Type 0 where
-  pub long : length used ≡ 1344
-  pub marks : (k : ℕ) → k < 1344 → getD used k false ≡ usedBefore rs n k || any (λ c. eqb (c .number) k) cs
+-- roots: the groups, by number, of the records before n that no record before n has as a child, nor n in `cs`; 0 for the others before n
+pub record Roots (rs : List Record) (n : ℕ) (cs : List Child) (roots : List ℕ) : Type 0 where
+  pub long : length roots ≡ 1344
+  pub groups :
+      (k : ℕ) → k < n →
+      getD roots k 0 ≡ cond (usedBefore rs n k || any (λ c. eqb (c .number) k) cs) 0 (cellIn (rowOf (recordOf rs k)) 0)
+  -- no record before n has n, or one behind it, as a child
+  pub later : (k : ℕ) → n ≤ k → usedBefore rs n k ≡ false
 
 -- a child in `new` comes again: among those in `cs`, or behind itself
 abbrev pub usedAgain : List Child → List Child → Bool
 usedAgain cs new = any (λ c. any (λ x. eqb (x .number) (c .number)) cs) new || usedTwice new
 
--- the children `new` of n are looked at, behind those in `cs`: whether one is wrong, and what is marked if none is
-pub record Takes (rs : List Record) (n : ℕ) (cs new : List Child) (wrong : Bool) (used : List Bool) : Type 0 where
+-- the children `new` of n are looked at, behind those in `cs`: whether one is wrong, and which roots are left if none is
+pub record Takes (rs : List Record) (n : ℕ) (cs new : List Child) (wrong : Bool) (roots : List ℕ) : Type 0 where
   pub wrong-is : wrong ≡ any (isWrong rs n) new || usedAgain cs new
-  pub marked : wrong ≡ false → Used rs n (cs ++ new) used
+  pub left : wrong ≡ false → Roots rs n (cs ++ new) roots
 
--- names: those declared by the records before n, in each of the three sets
-pub record Names (rs : List Record) (n : ℕ) (names : List Bool) : Type 0 where
-  pub long : length names ≡ 12288
+-- the bit of a set of names, 0 where there is none
+abbrev pub setBit : ℕ → ℕ
+setBit zero = 0
+setBit (suc s) = 2 ^ s
+
+-- a byte has the bit of a set of names, counted from 0
+abbrev pub hasBit : ℕ → ℕ → Bool
+hasBit s x = eqb (x / 2 ^ s % 2) 1
+
+-- names: those declared by the records before n, each with a bit for each of the three sets
+pub record Names (rs : List Record) (n : ℕ) (names : List ℕ) : Type 0 where
+  pub long : length names ≡ 4096
   pub marks :
       (s k : ℕ) → s < 3 → k < 4096 →
-      getD names (4096 * s + k) false ≡ any (λ x. eqb (nameSet x) (suc s) && eqb (x .a) k) (take n rs)
+      hasBit s (getD names k 0) ≡ any (λ x. eqb (nameSet x) (suc s) && eqb (x .a) k) (take n rs)
 
 -- depths: the levels of the trees at the records before n
 pub record Depths (rs : List Record) (n : ℕ) (depths : List ℕ) : Type 0 where
@@ -91,19 +105,19 @@ abbrev pub openBehind : Record → Bool → Bool
 openBehind r variant = cond (isDeclaration r || isKind 33 r || isUnionTombstone r) (isKind 33 r) variant
 
 -- the three tables
-pub record Kept (book : List ℕ) (n : ℕ) (used names : List Bool) (depths : List ℕ) : Type 0 where
-  pub used-is : Used (records book) n [] used
+pub record Kept (book : List ℕ) (n : ℕ) (roots names depths : List ℕ) : Type 0 where
+  pub roots-are : Roots (records book) n [] roots
   pub names-are : Names (records book) n names
   pub depths-are : Depths (records book) n depths
 
 -- record n of the book, which is r, is about to be looked at: what is known of those before it
-pub record Ready (book : List ℕ) (n : ℕ) (r : Record) (p : Place) (used names : List Bool) (depths : List ℕ) : Type 0 where
+pub record Ready (book : List ℕ) (n : ℕ) (r : Record) (p : Place) (roots names depths : List ℕ) : Type 0 where
   pub here : Here book n
   pub is : r ≡ recordOf (records book) n
   pub placed : Placed (before (records book) n) p
-  pub kept : Kept book n used names depths
+  pub kept : Kept book n roots names depths
 
 -- record n was looked at: the first fault that it has, and what the tables hold if it has none
-pub record Looked (book : List ℕ) (n : ℕ) (x : Fault) (used names : List Bool) (depths : List ℕ) : Type 0 where
+pub record Looked (book : List ℕ) (n : ℕ) (x : Fault) (roots names depths : List ℕ) : Type 0 where
   pub fault-is : refusalOf x ≡ find (holds book) (atRecord n)
-  pub kept : refusalOf x ≡ none → Kept book (suc n) used names depths
+  pub kept : refusalOf x ≡ none → Kept book (suc n) roots names depths

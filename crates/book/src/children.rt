@@ -2,11 +2,11 @@
 
 ghost use mathlib.Core.Path.{_≡_};
 ghost use mathlib.Core.List.{List, []};
-ghost use Prim.Native.Nat.{_<_};
+ghost use Prim.Native.Nat.{_≤_, _<_};
+ghost use Rattle.record.specs.declared.Record.{Record};
 ghost use Rattle.book.specs.Shape.{Field, Child, childIn, childrenBy};
-ghost use Rattle.book.specs.Blocks.{records};
-ghost use Rattle.book.specs.Rows.{rowAt, fieldNumber};
-ghost use Rattle.book.specs.Tables.{Here, Used, Takes};
+ghost use Rattle.book.specs.Rows.{rowAt, fieldNumber, ShapeTable};
+ghost use Rattle.book.specs.Tables.{Roots, Takes};
 use crate::scan::RECORDS;
 use crate::shape;
 use crate::shape::FIELD_A;
@@ -14,11 +14,11 @@ use crate::shape::FIELD_B;
 use crate::shape::FIELD_C;
 use record::Record;
 
-// Whether the child that a field of record n names is a wrong one. If not, it is marked as used.
-fn take_child(book: &[u8], n: u16, f: u8, x: u16, used: &mut [bool; RECORDS]) -> bool
-    requires { ⌜ Here (now book) n ⌝ }
-    ensures { λ r. ⌜ ((g : Field) (cs : List Child) → f ≡ fieldNumber g → Used (records (now (book .entry))) n cs (now (used .entry)) →
-        Takes (records (now (book .entry))) n cs (childIn g x) r (now (used .exit))) ⌝ }
+// Whether the child that a field of record n names is a wrong one. If not, it is the root of a tree no more.
+fn take_child(n: u16, f: u8, x: u16, roots: &mut [u8; RECORDS]) -> bool
+    requires { ⌜ n ≤ 1344 ⌝ }
+    ensures { λ r. ⌜ ((rs : List Record) (g : Field) (cs : List Child) → f ≡ fieldNumber g → Roots rs n cs (now (roots .entry)) →
+        Takes rs n cs (childIn g x) r (now (roots .exit))) ⌝ }
 {
     let group = shape::child_in(f, x);
     if group == 0 {
@@ -27,35 +27,33 @@ fn take_child(book: &[u8], n: u16, f: u8, x: u16, used: &mut [bool; RECORDS]) ->
     if n <= x {
         return true;
     }
-    if !shape::is_of(group, record::record_at(book, x)) {
-        return true;
-    }
     let k = x as usize;
-    if used[k] {
+    if roots[k] != group {
         return true;
     }
-    used[k] = true;
+    roots[k] = 0;
     false
 }
 
-// Whether a child of record n is a wrong one. If none is, they are marked as used.
+// Whether a child of record n is a wrong one. If none is, they are roots no more.
 pub(crate) fn take_children(
-    book: &[u8],
     n: u16,
     r: Record,
     row: u8,
-    used: &mut [bool; RECORDS],
+    table: &[[u8; 8]; 38],
+    roots: &mut [u8; RECORDS],
 ) -> bool
-    requires { ⌜ Here (now book) n ⌝ }
+    requires { ⌜ n ≤ 1344 ⌝ }
     requires { ⌜ row < 38 ⌝ }
-    ensures { λ x. ⌜ (Used (records (now (book .entry))) n [] (now (used .entry)) →
-        Takes (records (now (book .entry))) n [] (childrenBy r (rowAt row)) x (now (used .exit))) ⌝ }
+    requires { ⌜ ShapeTable (now table) ⌝ }
+    ensures { λ x. ⌜ ((rs : List Record) → Roots rs n [] (now (roots .entry)) →
+        Takes rs n [] (childrenBy r (rowAt row)) x (now (roots .exit))) ⌝ }
 {
-    if take_child(book, n, shape::cell(row, FIELD_A), r.a, used) {
+    if take_child(n, shape::cell(row, FIELD_A, table), r.a, roots) {
         return true;
     }
-    if take_child(book, n, shape::cell(row, FIELD_B), r.b, used) {
+    if take_child(n, shape::cell(row, FIELD_B, table), r.b, roots) {
         return true;
     }
-    take_child(book, n, shape::cell(row, FIELD_C), r.c, used)
+    take_child(n, shape::cell(row, FIELD_C, table), r.c, roots)
 }

@@ -5,7 +5,7 @@ ghost use mathlib.Core.Bool.{cond};
 ghost use Prim.Native.Nat.{max, _<_};
 ghost use lib.Dec.{leb, ltb};
 ghost use Rattle.book.specs.Shape.{Field, childIn, childrenBy};
-ghost use Rattle.book.specs.Rows.{rowAt, fieldNumber};
+ghost use Rattle.book.specs.Rows.{rowAt, fieldNumber, ShapeTable};
 ghost use Rattle.book.specs.Tables.{deepestOf};
 use crate::scan::RECORDS;
 use crate::shape;
@@ -36,13 +36,14 @@ fn larger(x: u8, y: u8) -> u8
 }
 
 // The levels of the deepest tree at a child of a record.
-pub(crate) fn deepest(r: Record, row: u8, depths: &[u8; RECORDS]) -> u8
+pub(crate) fn deepest(r: Record, row: u8, table: &[[u8; 8]; 38], depths: &[u8; RECORDS]) -> u8
     requires { ⌜ row < 38 ⌝ }
+    requires { ⌜ ShapeTable (now table) ⌝ }
     ensures { λ x. ⌜ x ≡ deepestOf (now (depths .entry)) (childrenBy r (rowAt row)) ⌝ }
 {
-    let a = levels_in(shape::cell(row, FIELD_A), r.a, depths);
-    let b = levels_in(shape::cell(row, FIELD_B), r.b, depths);
-    let c = levels_in(shape::cell(row, FIELD_C), r.c, depths);
+    let a = levels_in(shape::cell(row, FIELD_A, table), r.a, depths);
+    let b = levels_in(shape::cell(row, FIELD_B, table), r.b, depths);
+    let c = levels_in(shape::cell(row, FIELD_C, table), r.c, depths);
     larger(a, larger(b, c))
 }
 

@@ -7,9 +7,10 @@ ghost use Prim.Native.Nat.{_<_};
 ghost use Rattle.record.specs.declared.Record.{Record};
 ghost use Rattle.book.specs.Shape.{wellShaped};
 ghost use Rattle.book.specs.Faults.{mayFollow};
-ghost use Rattle.book.specs.Follow.{followOf};
+ghost use Rattle.book.specs.Follow.{followOf, FollowTable};
 ghost use Rattle.book.specs.Tables.{Placed, following, hasRoom, openBehind};
 use crate::follow_table::follows;
+use crate::shape::KINDS;
 use record::Record;
 
 // What the follow rule knows of the records before: the kind of the last one above 16 and of the latest declaration,
@@ -46,14 +47,15 @@ fn has_room(r: Record, p: Place) -> bool
 }
 
 // Whether a record may stand where it stands.
-pub(crate) fn may_follow(r: Record, p: Place) -> bool
+pub(crate) fn may_follow(r: Record, p: Place, follow: &[[bool; KINDS]; KINDS]) -> bool
     requires { ⌜ (wellShaped r ≡ true) × (followOf (p .before) 20 ≡ true) ⌝ }
+    requires { ⌜ FollowTable (now follow) ⌝ }
     ensures { λ x. ⌜ ((bs : List Record) → Placed bs p → x ≡ mayFollow r bs) ⌝ }
 {
     if r.kind <= 16 {
         return true;
     }
-    follows(p.before, r.kind) & has_room(r, p)
+    follows(p.before, r.kind, follow) & has_room(r, p)
 }
 
 // Whether a variant is open behind a record of a kind above 16.

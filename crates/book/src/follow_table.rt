@@ -2,7 +2,7 @@
 
 ghost use mathlib.Core.Path.{_≡_};
 ghost use Prim.Native.Nat.{_<_};
-ghost use Rattle.book.specs.Follow.{followOf};
+ghost use Rattle.book.specs.Follow.{followOf, FollowTable};
 use crate::shape::KINDS;
 
 // Short for a table of many.
@@ -12,7 +12,7 @@ const F: bool = false;
 
 // Rows by the kind before, columns by the kind at hand: whether the one may stand behind the other. Row 0 stands for no
 // record before; kinds 1 to 16 are passed over and do not come here.
-const FOLLOW: [[bool; KINDS]; KINDS] = [
+pub const FOLLOW: [[bool; KINDS]; KINDS] = [
     [
         F,
         F,
@@ -585,11 +585,12 @@ const FOLLOW: [[bool; KINDS]; KINDS] = [
 ];
 
 // Whether a kind may stand behind another, as far as these two tell.
-pub(crate) fn follows(before: u8, kind: u8) -> bool
+pub(crate) fn follows(before: u8, kind: u8, follow: &[[bool; KINDS]; KINDS]) -> bool
     requires { ⌜ (before < 37) × (kind < 37) ⌝ }
+    requires { ⌜ FollowTable (now follow) ⌝ }
     ensures { λ x. ⌜ x ≡ followOf before kind ⌝ }
 {
     let b = before as usize;
     let k = kind as usize;
-    FOLLOW[b][k]
+    follow[b][k]
 }

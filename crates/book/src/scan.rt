@@ -5,6 +5,8 @@ ghost use mathlib.Core.List.{flatMap};
 ghost use Rattle.book.specs.Lists.{find, upTo};
 ghost use Rattle.book.specs.Refusal.{atRecord, holds};
 ghost use Rattle.book.specs.Answer.{refusalOf};
+ghost use Rattle.book.specs.Follow.{FollowTable};
+ghost use Rattle.book.specs.Rows.{ShapeTable};
 ghost use Rattle.book.specs.Tables.{Ready, Looked, Counted};
 use crate::Cause;
 use crate::children;
@@ -12,10 +14,14 @@ use crate::depth;
 use crate::fault::Fault;
 use crate::follow;
 use crate::follow::Place;
+use crate::follow_table::FOLLOW;
 use crate::names;
-use crate::names::NAME_PLACES;
+use crate::names::NAMES;
 use crate::shape;
+use crate::shape::GROUP;
+use crate::shape::KINDS;
 use crate::shape::ROWS;
+use crate::shape::TABLE;
 use record::Record;
 
 // A book has at most so many records.
@@ -34,51 +40,70 @@ fn record_fault(
     n: u16,
     r: Record,
     place: Place,
-    used: &mut [bool; RECORDS],
-    names: &mut [bool; NAME_PLACES],
+    table: &[[u8; 8]; 38],
+    follow: &[[bool; KINDS]; KINDS],
+    roots: &mut [u8; RECORDS],
+    names: &mut [u8; NAMES],
     depths: &mut [u8; RECORDS],
 ) -> Fault
-    requires { ⌜ Ready (now book) n r place (now used) (now names) (now depths) ⌝ }
-    ensures { λ x. ⌜ Looked (now (book .entry)) n x (now (used .exit)) (now (names .exit)) (now (depths .exit)) ⌝ }
+    requires { ⌜ Ready (now book) n r place (now roots) (now names) (now depths) ⌝ }
+    requires { ⌜ ShapeTable (now table) × FollowTable (now follow) ⌝ }
+    ensures { λ x. ⌜ Looked (now (book .entry)) n x (now (roots .exit)) (now (names .exit)) (now (depths .exit)) ⌝ }
 {
-    let row = shape::row_of(r);
+    let row = shape::row_of(r, table);
     if row == ROWS {
         return fault(Cause::Shape, n);
     }
-    if !shape::fits(r, row) {
+    if !shape::fits(r, row, table) {
         return fault(Cause::Shape, n);
     }
-    if children::take_children(book, n, r, row, used) {
+    if children::take_children(n, r, row, table, roots) {
         return fault(Cause::Child, n);
     }
-    if !follow::may_follow(r, place) {
+    if !follow::may_follow(r, place, follow) {
         return fault(Cause::Follow, n);
     }
     if names::declare(r, names) {
         return fault(Cause::Name, n);
     }
-    let deepest = depth::deepest(r, row, depths);
+    let deepest = depth::deepest(r, row, table, depths);
     if depth::too_deep(r, deepest) {
         return fault(Cause::Depth, n);
     }
-    let at = n as usize;
-    depths[at] = deepest + 1;
+    depths[n as usize] = deepest + 1;
+    roots[n as usize] = shape::cell(row, GROUP, table);
     Fault::Nothing
 }
 
-// The first fault of causes 4 to 8 in a book of so many records.
-pub(crate) fn first_fault(book: &[u8], count: u16) -> Fault
+// The first fault of causes 4 to 8 in a book of so many records, by the two tables.
+fn first_by(
+    book: &[u8],
+    count: u16,
+    table: &[[u8; 8]; 38],
+    follow: &[[bool; KINDS]; KINDS],
+) -> Fault
     requires { ⌜ Counted (now book) count ⌝ }
+    requires { ⌜ ShapeTable (now table) × FollowTable (now follow) ⌝ }
     ensures { λ r. ⌜ refusalOf r ≡ find (holds (now (book .entry))) (flatMap atRecord (upTo count)) ⌝ }
 {
     let mut place = follow::start();
-    let mut used = [false; RECORDS];
-    let mut names = [false; NAME_PLACES];
+    let mut roots = [0u8; RECORDS];
+    let mut names = [0u8; NAMES];
     let mut depths = [0u8; RECORDS];
     let mut n: u16 = 0;
     while n < count {
         let r = record::record_at(book, n);
-        let found = record_fault(book, n, r, place, &mut used, &mut names, &mut depths);
+        let found = record_fault(
+            book,
+            n,
+            r,
+            place,
+            table,
+            follow,
+            &mut roots,
+            &mut names,
+            &mut depths,
+        );
         let Fault::Nothing = found else {
             return found;
         };
@@ -86,4 +111,15 @@ pub(crate) fn first_fault(book: &[u8], count: u16) -> Fault
         n += 1;
     }
     Fault::Nothing
+}
+
+// The first fault of causes 4 to 8 in a book of so many records. The tables are copied here and lent, since each index
+// into a constant copies the whole of it.
+pub(crate) fn first_fault(book: &[u8], count: u16) -> Fault
+    requires { ⌜ Counted (now book) count ⌝ }
+    ensures { λ r. ⌜ refusalOf r ≡ find (holds (now (book .entry))) (flatMap atRecord (upTo count)) ⌝ }
+{
+    let table = TABLE;
+    let follow = FOLLOW;
+    first_by(book, count, &table, &follow)
 }

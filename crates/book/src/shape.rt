@@ -3,8 +3,8 @@
 ghost use mathlib.Core.Path.{_≡_};
 ghost use Prim.Native.Nat.{_≤_, _<_};
 ghost use mathlib.Core.Option.{some};
-ghost use Rattle.book.specs.Shape.{Field, Group, Row, table, isRow, rowOf, allows, fits, groupNumber, isOf, childIn};
-ghost use Rattle.book.specs.Rows.{rowAt, firstRow, fieldNumber, cellIn, groupIn};
+ghost use Rattle.book.specs.Shape.{Field, Row, table, isRow, rowOf, allows, fits, childIn};
+ghost use Rattle.book.specs.Rows.{rowAt, firstRow, fieldNumber, cellIn, groupIn, lastIn, ShapeTable};
 use record::Record;
 
 // The groups of kinds.
@@ -66,7 +66,7 @@ pub const KINDS: usize = 37;
 pub const ROWS: u8 = 38;
 
 // The columns of the table: the group, the kind, the first and the last sub, and what a, b, c and v may hold.
-const GROUP: u8 = 0;
+pub const GROUP: u8 = 0;
 
 const KIND: u8 = 1;
 
@@ -82,7 +82,7 @@ pub const FIELD_C: u8 = 6;
 
 const FIELD_V: u8 = 7;
 
-const TABLE: [[u8; 8]; 38] = [
+pub const TABLE: [[u8; 8]; 38] = [
     [TYPE, 1, 0, 13, UNUSED, UNUSED, UNUSED, UNUSED], // primitive
     [TYPE, 2, 0, 1, BITS, UNUSED, UNUSED, UNUSED], // sub-byte
     [TYPE, 3, 0, 5, UNUSED, UNUSED, UNUSED, UNUSED], // semantic
@@ -165,23 +165,25 @@ const FIRST: [u8; KINDS] = [
 ];
 
 // A number of a row of the table.
-pub(crate) fn cell(row: u8, column: u8) -> u8
+pub(crate) fn cell(row: u8, column: u8, table: &[[u8; 8]; 38]) -> u8
     requires { ⌜ (row < 38) × (column < 8) ⌝ }
+    requires { ⌜ ShapeTable (now table) ⌝ }
     ensures { λ x. ⌜ x ≡ cellIn (rowAt row) column ⌝ }
 {
     let w = row as usize;
     let k = column as usize;
-    TABLE[w][k]
+    table[w][k]
 }
 
 // Whether a record is of a row, by its kind and its sub.
-fn is_row(r: Record, row: u8) -> bool
+fn is_row(r: Record, row: u8, table: &[[u8; 8]; 38]) -> bool
     requires { ⌜ row < 38 ⌝ }
+    requires { ⌜ ShapeTable (now table) ⌝ }
     ensures { λ x. ⌜ ((w : Row) → rowAt row ≡ some w → x ≡ isRow r w) ⌝ }
 {
-    let kind = cell(row, KIND);
-    let low = cell(row, LOW);
-    let high = cell(row, HIGH);
+    let kind = cell(row, KIND, table);
+    let low = cell(row, LOW, table);
+    let high = cell(row, HIGH, table);
     (r.kind == kind) & (low <= r.sub) & (r.sub <= high)
 }
 
@@ -194,12 +196,13 @@ fn first_row(kind: u8) -> u8
 }
 
 // The number of a record's row.
-pub(crate) fn row_of(r: Record) -> u8
+pub(crate) fn row_of(r: Record, table: &[[u8; 8]; 38]) -> u8
+    requires { ⌜ ShapeTable (now table) ⌝ }
     ensures { λ x. ⌜ (x ≤ 38) × (rowAt x ≡ rowOf r) ⌝ }
 {
     let mut row = first_row(r.kind);
     while row < ROWS {
-        if is_row(r, row) {
+        if is_row(r, row, table) {
             return row;
         }
         row += 1;
@@ -207,31 +210,39 @@ pub(crate) fn row_of(r: Record) -> u8
     ROWS
 }
 
+// The last value that a field may hold, apart from the one that stands for no name.
+fn last_in(f: u8) -> u64
+    ensures { λ r. ⌜ r ≡ lastIn f ⌝ }
+{
+    match f {
+        UNUSED => 0,
+        FLAG => 1,
+        BITS => 255,
+        NAME => 4095,
+        MAYBE_NAME => 4095,
+        STRING => 65534,
+        ORDINAL => 0xFFFF_FFFF,
+        _ => 0xFFFF_FFFF_FFFF_FFFF,
+    }
+}
+
 // Whether a field may hold x.
 fn allows(f: u8, x: u64) -> bool
     ensures { λ r. ⌜ ((g : Field) → f ≡ fieldNumber g → r ≡ allows g x) ⌝ }
 {
-    match f {
-        UNUSED => x == 0,
-        FLAG => x < 2,
-        BITS => x < 256,
-        NAME => x < 4096,
-        MAYBE_NAME => (x < 4096) | (x == 65535),
-        STRING => x < 65535,
-        ORDINAL => x < 0x1_0000_0000,
-        _ => true,
-    }
+    (x <= last_in(f)) | (f == MAYBE_NAME) & (x == 65535)
 }
 
 // Whether every field of a record is inside the values of a row.
-pub(crate) fn fits(r: Record, row: u8) -> bool
+pub(crate) fn fits(r: Record, row: u8, table: &[[u8; 8]; 38]) -> bool
     requires { ⌜ row < 38 ⌝ }
+    requires { ⌜ ShapeTable (now table) ⌝ }
     ensures { λ x. ⌜ x ≡ fits r (rowAt row) ⌝ }
 {
-    allows(cell(row, FIELD_A), r.a as u64)
-        & allows(cell(row, FIELD_B), r.b as u64)
-        & allows(cell(row, FIELD_C), r.c as u64)
-        & allows(cell(row, FIELD_V), r.v)
+    allows(cell(row, FIELD_A, table), r.a as u64)
+        & allows(cell(row, FIELD_B, table), r.b as u64)
+        & allows(cell(row, FIELD_C, table), r.c as u64)
+        & allows(cell(row, FIELD_V, table), r.v)
 }
 
 // The group of the child that a field with the value x names, 0 where it names none.
@@ -245,15 +256,4 @@ pub(crate) fn child_in(f: u8, x: u16) -> u8
         return f - CHILD;
     }
     if x == NONE { 0 } else { f - MAYBE }
-}
-
-// Whether a record is of a group.
-pub(crate) fn is_of(group: u8, r: Record) -> bool
-    ensures { λ x. ⌜ ((g : Group) → group ≡ groupNumber g → x ≡ isOf g r) ⌝ }
-{
-    let row = row_of(r);
-    if row == ROWS {
-        return false;
-    }
-    group == cell(row, GROUP)
 }

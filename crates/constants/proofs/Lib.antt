@@ -18,6 +18,7 @@ pub mod References
 pub mod Numbered
 pub mod Declaring
 pub mod Turns
+pub mod Hinting
 pub mod Admitting
 pub mod Searching
 pub mod Settles

@@ -4,7 +4,7 @@
 use Prim.Native.Nat.{ℕ, _<_}
 use mathlib.Core.Bool.{Bool, true, false, not, _&&_, and-false, true≢false}
 use mathlib.Core.List.{List, _∷_, List·Memᴰ·head}
-use mathlib.Core.Option.{Option, some, none}
+use mathlib.Core.Option.{Option, none}
 use mathlib.Core.Path.{_≡_, refl, sym, ap, _∙_, subst}
 use native.Mathlib.Decide.{ℕ-discrete}
 use native.Mathlib.Omega.{arith}
@@ -13,11 +13,11 @@ use lib.Seq.{getD-set-same, getD-set-other}
 use borrow.Author.Tests.{ne-eqb, not-true, not-false}
 use Rattle.record.specs.declared.Record.{Record}
 use Rattle.book.specs.Lists.{any, find}
-use Rattle.book.proofs.Members.{Found, First, first-mem, found, of-all}
+use Rattle.book.proofs.Members.{Found, found, of-all}
 use Rattle.book.proofs.Trees.{not-so, both-so}
 use Rattle.constants.specs.Expr.{refs}
 use Rattle.constants.specs.Order.{Constant, each, has, declares, admits, ready}
-use Rattle.constants.specs.Tables.{declared, exprOfBook, Undone, Waiting, not-admitted, over, new, for, constantIn, Waits, Told}
+use Rattle.constants.specs.Tables.{declared, exprOfBook, Names, Undone, Waiting, not-admitted, over, new, for, constantIn, Waits, Told}
 use Rattle.constants.proofs.Tests.{has-mem, mem-has, is-ready, ready-if}
 use Rattle.constants.proofs.Order.{has-later}
 use Rattle.constants.proofs.References.{AreNames, refs-are-names}
@@ -84,7 +84,7 @@ module _ {cs : List Constant} {done : List ℕ} {undone : List Bool} (u : Undone
   waits-not (new h a) e = (h, a)
   waits-not (for low h a names) e = (h, a)
 
--- constant i of a book, which waits for a name that is not undone: it is ready, or it waits for the first undone name that it names
+-- constant i of a book, which waits for a name that is not undone: it is ready, or it waits for an undone name that it names
 module _
     {book : List ℕ} {i : ℕ} {r : Record} {done : List ℕ} {undone : List Bool} {waits : List ℕ} (s : Stands book i r)
     (u : Undone (declared book) done undone) (w : Waits (declared book) done waits)
@@ -117,15 +117,13 @@ module _
         waits-are = w;
       }
 
-  pub told-not : (n : ℕ) → some n ≡ firstUndone → Told cs done i false (set waits i n)
-  told-not n e =
+  pub told-not : (n : ℕ) → Names (exprOfBook book (r .c)) n → getD undone n false ≡ true → Told cs done i false (set waits i n)
+  told-not n names passes =
       let (fresh, admitted) = waits-not u (w .each-waits i (s .inside)) free in
-      let first : First (λ n. getD undone n false) (refs (c .expr)) n = looked (some n) e in
-      let low = of-all _ _ names n (first-mem first) in
+      let named : Names (c .expr) n = rw (s .expr-is) names in
       record {
-        is-ready = sym (names-undone u c n low (mem-has (first-mem first)) (first .passes));
-        waits-are =
-            waits-set waits i (w .long) (s .few) (for low fresh admitted (mem-has (first-mem first))) (λ j l _. w .each-waits j l);
+        is-ready = sym (names-undone u c n (named .low) (named .among) passes);
+        waits-are = waits-set waits i (w .long) (s .few) (for (named .low) fresh admitted (named .among)) (λ j l _. w .each-waits j l);
       }
 
 -- a name is done: itself, and others

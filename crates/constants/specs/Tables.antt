@@ -6,9 +6,9 @@ use mathlib.Core.List.{List, [], _++_}
 use mathlib.Core.Option.{Option, some, none}
 use mathlib.Core.Path.{_≡_}
 use lib.Dec.{eqb}
-use lib.ListN.{length, take, getD}
+use lib.ListN.{length, take, getD, set}
 use Rattle.arith.specs.Word.{signed}
-use Rattle.book.specs.Lists.{keep}
+use Rattle.book.specs.Lists.{find, keep}
 use Rattle.book.specs.Shape.{constant, isOf}
 use Rattle.book.specs.Blocks.{recordCount, records}
 use Rattle.book.specs.Faults.{recordOf, isKind}
@@ -65,6 +65,41 @@ pub record Looked (stamp : ℕ) (new ns : List ℕ) (again : Bool) (seen : List 
   pub again-is : repeats (new ++ ns) ≡ again || repeats ns
   pub seen-is : Seen stamp (new ++ ns) seen
 
+-- an expression names n
+pub record Names (e : Expr) (n : ℕ) : Type 0 where
+  pub low : n < 4096
+  pub among : has n (refs e) ≡ true
+
+-- hints: from place k up to `end` a list has names that an expression names
+pub record Hints (e : Expr) (named : List ℕ) (k end : ℕ) : Type 0 where
+  pub within : end ≤ 1344
+  pub names : (j : ℕ) → k ≤ j → j < end → Names e (getD named j 0)
+
+-- names that an expression names are put into a list from place k up to `end`; the rest of it is as it was
+pub record Listed (e : Expr) (k end : ℕ) (named named′ : List ℕ) : Type 0 where
+  pub onward : k ≤ end
+  pub long : length named′ ≡ 1344
+  pub before : (j : ℕ) → j < k → getD named′ j 0 ≡ getD named j 0
+  pub behind : (j : ℕ) → end ≤ j → getD named′ j 0 ≡ getD named j 0
+  pub hints : Hints e named′ k end
+
+-- r is the first place of hints, from k on, whose name is undone; the end or a later place where there is none
+pub record NextHint (undone : List Bool) (named : List ℕ) (k end r : ℕ) : Type 0 where
+  pub onward : k ≤ r
+  pub none-before : (j : ℕ) → j < r → k ≤ j → getD undone (getD named j 0) false ≡ false
+  pub holds : r < end → getD undone (getD named r 0) false ≡ true
+
+-- a name that is undone, among those that an expression names: none only if there is none
+pub record UndoneName (undone : List Bool) (e : Expr) (o : Option ℕ) : Type 0 where
+  pub nothing : o ≡ none → none ≡ find (λ n. getD undone n false) (refs e)
+  pub is : (n : ℕ) → o ≡ some n → Names e n × (getD undone n false ≡ true)
+
+-- entry i of a list goes on to a later place
+pub record GoesOn (i : ℕ) (l l′ : List ℕ) : Type 0 where
+  pub to : ℕ
+  pub onward : getD l i 0 ≤ to
+  pub set-is : l′ ≡ set l i to
+
 -- places: the record numbers of the constants, in book order
 pub record Places (book : Book) (m : ℕ) (places : List ℕ) : Type 0 where
   pub long : length places ≡ 1344
@@ -97,6 +132,11 @@ constantIn cs i = getD cs i (record { place = 0; name = 0; expr = exprAt 0 [] 0 
 pub record Waits (cs : List Constant) (done : List ℕ) (waits : List ℕ) : Type 0 where
   pub long : length waits ≡ 1344
   pub each-waits : (i : ℕ) → i < length cs → Waiting cs done (constantIn cs i) (getD waits i 0)
+
+-- hints of each constant
+pub record Hinted (cs : List Constant) (named hints ends : List ℕ) : Type 0 where
+  pub long : length hints ≡ 1344
+  pub each-hinted : (i : ℕ) → i < length cs → Hints (constantIn cs i .expr) named (getD hints i 0) (getD ends i 0)
 
 -- some names are done
 pub record Standing (cs : List Constant) (undone : List Bool) (waits : List ℕ) : Type 0 where

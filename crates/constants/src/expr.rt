@@ -3,15 +3,16 @@
 ghost use mathlib.Core.Path.{_≡_};
 ghost use mathlib.Core.List.{List, [], _∷_};
 ghost use mathlib.Core.Bool.{false};
-ghost use Prim.Native.Nat.{ℕ, _<_};
-ghost use lib.ListN.{getD};
+ghost use Prim.Native.Nat.{ℕ, _≤_, _<_};
+ghost use lib.ListN.{length, getD};
 ghost use Rattle.arith.specs.Checked.{answer};
 ghost use Rattle.arith.specs.Word.{signed};
 ghost use Rattle.book.specs.Lists.{find, keep};
-ghost use Rattle.constants.specs.Expr.{literalOf, opOf, refs};
+ghost use Rattle.constants.specs.Expr.{reference, literalOf, opOf, refs};
 ghost use Rattle.constants.specs.Eval.{literalValue, apply, applyTo, evalConstExpr};
-ghost use Rattle.constants.specs.Tables.{tableOf, IsExpr, exprOfBook, nameOf, marked, Seen, Looked};
+ghost use Rattle.constants.specs.Tables.{tableOf, IsExpr, exprOfBook, nameOf, marked, Seen, Looked, Listed};
 use crate::NAMES;
+use crate::RECORDS;
 use crate::ready::SLOTS;
 use arith::Checked;
 
@@ -165,6 +166,36 @@ pub(crate) fn names_twice(
             let right = names_twice(book, r.b, stamp, undone, seen);
             let left = names_twice(book, r.a, stamp, undone, seen);
             left | right
+        }
+    }
+}
+
+// Puts a name at a place of a list, if that has room for it. The place behind it.
+fn put_name(name: u16, from: u16, named: &mut [u16; RECORDS]) -> u16
+    requires { ⌜ (name < 4096) × (from ≤ 1344) × (length (now named) ≡ 1344) ⌝ }
+    ensures { λ r. ⌜ Listed (reference name) from r (now (named .entry)) (now (named .exit)) ⌝ }
+{
+    let at = from as usize;
+    if at < RECORDS {
+        named[at] = name;
+        return from + 1;
+    }
+    from
+}
+
+// Lists what the expression at record n names, from a place of a list on, as far as there is room. The place behind it.
+pub(crate) fn list_names(book: &[u8], n: u16, from: u16, named: &mut [u16; RECORDS]) -> u16
+    requires { ⌜ IsExpr (now book) n × (from ≤ 1344) × (length (now named) ≡ 1344) ⌝ }
+    ensures { λ r. ⌜ Listed (exprOfBook (now (book .entry)) n) from r (now (named .entry)) (now (named .exit)) ⌝ }
+{
+    let r = record::record_at(book, n);
+    let kind = r.kind;
+    match kind {
+        10 => from,
+        11 => put_name(r.a, from, named),
+        _ => {
+            let behind = list_names(book, r.a, from, named);
+            list_names(book, r.b, behind, named)
         }
     }
 }

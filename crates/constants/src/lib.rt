@@ -34,14 +34,21 @@ pub fn evaluate_constants(
     let mut places = [0u16; RECORDS];
     let mut waits = [0u16; RECORDS];
     let mut undone = [false; ready::SLOTS];
+    let mut named = [0u16; RECORDS];
+    let mut hints = [0u16; RECORDS];
+    let mut ends = [0u16; RECORDS];
     let m = ready::declare_constants(book, count, &mut places, &mut undone);
     ready::admit_constants(book, m, &places, &undone, &mut waits);
+    ready::hint_constants(book, m, &places, &mut named, &mut hints, &mut ends);
     ready::settle_constants(
         book,
         m,
         &places,
         &mut undone,
         &mut waits,
+        &named,
+        &ends,
+        &mut hints,
         known,
         worth,
         order,

@@ -4,14 +4,15 @@ ghost use mathlib.Core.Path.{_≡_};
 ghost use mathlib.Core.List.{List, []};
 ghost use mathlib.Core.Bool.{false};
 ghost use Prim.Native.Nat.{ℕ, _≤_, _<_};
-ghost use lib.ListN.{length, set, replicate};
+ghost use lib.ListN.{length, getD, set, replicate};
 ghost use Rattle.arith.specs.Checked.{answer};
 ghost use Rattle.book.specs.Blocks.{recordCount};
 ghost use Rattle.book.specs.Outline.{read};
 ghost use Rattle.book.specs.Trees.{Readable};
 ghost use Rattle.constants.specs.OfBook.{constantAt};
 ghost use Rattle.constants.specs.Values.{IsI64};
-ghost use Rattle.constants.specs.Tables.{declared, IsConstant, constantIn, Places, Undone, Waits, Standing, Told, Found};
+ghost use Rattle.constants.specs.Tables.{IsExpr, exprOfBook, nameOf, declared, IsConstant, constantIn, Places, Undone, Waits, Standing, Told, Found};
+ghost use Rattle.constants.specs.Tables.{Hints, NextHint, UndoneName, GoesOn, Hinted};
 ghost use Rattle.constants.specs.Evaluated.{hasValue, valueOr0, knownThen, worthThen, Long, Settles, outcomeOver, Evaluated};
 use crate::NAMES;
 use crate::RECORDS;
@@ -83,13 +84,92 @@ pub(crate) fn admit_constants(
     }
 }
 
+// Lists what each constant names, as hints of what it may wait for: those of constant i stand in `named` from hints[i] up
+// to ends[i].
+pub(crate) fn hint_constants(
+    book: &[u8],
+    m: u16,
+    places: &[u16; RECORDS],
+    named: &mut [u16; RECORDS],
+    hints: &mut [u16; RECORDS],
+    ends: &mut [u16; RECORDS],
+)
+    requires { ⌜ Readable (now book) × Places (read (now book)) m (now places) ⌝ }
+    requires { ⌜ (length (now named) ≡ 1344) × (length (now hints) ≡ 1344) × (length (now ends) ≡ 1344) ⌝ }
+    ensures { λ _. ⌜ Hinted (declared (now (book .entry))) (now (named .exit)) (now (hints .exit)) (now (ends .exit)) ⌝ }
+{
+    let mut k: u16 = 0;
+    let mut i: u16 = 0;
+    while i < m {
+        let at = i as usize;
+        let r = record::record_at(book, places[at]);
+        hints[at] = k;
+        k = expr::list_names(book, r.c, k, named);
+        ends[at] = k;
+        i += 1;
+    }
+}
+
+// The place of the first hint that is undone, from k on and before `end`; the end or a later place where none is.
+fn next_hint(k: u16, end: u16, undone: &[bool; SLOTS], named: &[u16; RECORDS]) -> u16
+    requires { ⌜ (end ≤ 1344) × ((j : ℕ) → k ≤ j → j < end → getD (now named) j 0 < 4096) ⌝ }
+    ensures { λ r. ⌜ NextHint (now (undone .entry)) (now (named .entry)) k end r ⌝ }
+{
+    let mut j = k;
+    while j < end {
+        let at = j as usize;
+        let name = named[at] as usize;
+        if undone[name] {
+            return j;
+        }
+        j += 1;
+    }
+    j
+}
+
+// An undone name that constant i, whose expression is at record n, names, if there is one. Its hints go on to it; the
+// expression is looked at only behind the last of them.
+fn undone_name(
+    book: &[u8],
+    i: u16,
+    n: u16,
+    undone: &[bool; SLOTS],
+    named: &[u16; RECORDS],
+    ends: &[u16; RECORDS],
+    hints: &mut [u16; RECORDS],
+) -> Name
+    requires { ⌜ IsExpr (now book) n × (i < 1344) × Hints (exprOfBook (now book) n) (now named) (getD (now hints) i 0) (getD (now ends) i 0) ⌝ }
+    ensures { λ r. ⌜ UndoneName (now (undone .entry)) (exprOfBook (now (book .entry)) n) (nameOf r) ⌝ }
+    ensures { λ _. ⌜ GoesOn i (now (hints .entry)) (now (hints .exit)) ⌝ }
+{
+    let at = i as usize;
+    let end = ends[at];
+    let k = next_hint(hints[at], end, undone, named);
+    hints[at] = k;
+    if k < end {
+        let here = k as usize;
+        return Name::Is(named[here]);
+    }
+    expr::first_undone(book, n, undone)
+}
+
 // Whether constant i, at record p, is ready. If not, it waits for an undone name.
-fn is_ready(book: &[u8], i: u16, p: u16, undone: &[bool; SLOTS], waits: &mut [u16; RECORDS]) -> bool
+fn is_ready(
+    book: &[u8],
+    i: u16,
+    p: u16,
+    undone: &[bool; SLOTS],
+    waits: &mut [u16; RECORDS],
+    named: &[u16; RECORDS],
+    ends: &[u16; RECORDS],
+    hints: &mut [u16; RECORDS],
+) -> bool
     requires { ⌜ Readable (now book) × (i < length (declared (now book))) × (p ≡ constantIn (declared (now book)) i .place) ⌝ }
-    requires { ⌜ Standing (declared (now book)) (now undone) (now waits) ⌝ }
+    requires { ⌜ Standing (declared (now book)) (now undone) (now waits) × Hinted (declared (now book)) (now named) (now hints) (now ends) ⌝ }
     ensures { λ r. ⌜ ((done : List ℕ) → Undone (declared (now (book .entry))) done (now (undone .entry)) →
         Waits (declared (now (book .entry))) done (now (waits .entry)) →
         Told (declared (now (book .entry))) done i r (now (waits .exit))) ⌝ }
+    ensures { λ _. ⌜ Hinted (declared (now (book .entry))) (now (named .entry)) (now (hints .exit)) (now (ends .entry)) ⌝ }
 {
     let at = i as usize;
     let w = waits[at] as usize;
@@ -97,7 +177,7 @@ fn is_ready(book: &[u8], i: u16, p: u16, undone: &[bool; SLOTS], waits: &mut [u1
         return false;
     }
     let r = record::record_at(book, p);
-    match expr::first_undone(book, r.c, undone) {
+    match undone_name(book, i, r.c, undone, named, ends, hints) {
         Name::Nothing => true,
         Name::Is(name) => {
             waits[at] = name;
@@ -114,17 +194,21 @@ fn first_ready(
     places: &[u16; RECORDS],
     undone: &[bool; SLOTS],
     waits: &mut [u16; RECORDS],
+    named: &[u16; RECORDS],
+    ends: &[u16; RECORDS],
+    hints: &mut [u16; RECORDS],
 ) -> u16
     requires { ⌜ Readable (now book) × Places (read (now book)) m (now places) × (low ≤ m) ⌝ }
-    requires { ⌜ Standing (declared (now book)) (now undone) (now waits) ⌝ }
+    requires { ⌜ Standing (declared (now book)) (now undone) (now waits) × Hinted (declared (now book)) (now named) (now hints) (now ends) ⌝ }
     ensures { λ r. ⌜ ((done : List ℕ) → Undone (declared (now (book .entry))) done (now (undone .entry)) →
         Waits (declared (now (book .entry))) done (now (waits .entry)) →
         Found (declared (now (book .entry))) done low r (now (waits .exit))) ⌝ }
+    ensures { λ _. ⌜ Hinted (declared (now (book .entry))) (now (named .entry)) (now (hints .exit)) (now (ends .entry)) ⌝ }
 {
     let mut i = low;
     while i < m {
         let at = i as usize;
-        if is_ready(book, i, places[at], undone, waits) {
+        if is_ready(book, i, places[at], undone, waits, named, ends, hints) {
             return i;
         }
         i += 1;
@@ -202,6 +286,9 @@ pub(crate) fn settle_constants(
     places: &[u16; RECORDS],
     undone: &mut [bool; SLOTS],
     waits: &mut [u16; RECORDS],
+    named: &[u16; RECORDS],
+    ends: &[u16; RECORDS],
+    hints: &mut [u16; RECORDS],
     known: &mut [bool; NAMES],
     worth: &mut [u64; NAMES],
     order: &mut [u16; RECORDS],
@@ -209,7 +296,8 @@ pub(crate) fn settle_constants(
     values: &mut [u64; RECORDS],
 ) -> u16
     requires { ⌜ Readable (now book) × Places (read (now book)) m (now places) ⌝ }
-    requires { ⌜ Undone (declared (now book)) [] (now undone) × Waits (declared (now book)) [] (now waits) ⌝ }
+    requires { ⌜ Undone (declared (now book)) [] (now undone) × Waits (declared (now book)) [] (now waits)
+        × Hinted (declared (now book)) (now named) (now hints) (now ends) ⌝ }
     requires { ⌜ Long (now known) (now worth) (now order) (now stored) (now values) ⌝ }
     ensures { λ r. ⌜ Evaluated (outcomeOver (now (book .entry)) (now (known .entry)) (now (worth .entry))) r
         (now (known .entry)) (now (known .exit)) (now (worth .entry)) (now (worth .exit)) (now (order .entry)) (now (order .exit))
@@ -218,7 +306,7 @@ pub(crate) fn settle_constants(
     let mut k: u16 = 0;
     let mut low: u16 = 0;
     while k < m {
-        let i = first_ready(book, low, m, places, undone, waits);
+        let i = first_ready(book, low, m, places, undone, waits, named, ends, hints);
         if i == m {
             return k;
         }

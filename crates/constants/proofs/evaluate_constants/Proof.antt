@@ -6,15 +6,19 @@ use Rattle.constants.proofs.evaluate_constants.Tie as tie
 
 settle-constants-requires : tie.Need-settle-constants-requires
 settle-constants-requires c κs =
-    let a = c .before .before .before .before .before .before .before .before in
+    let h = c .before .before .before .before .before .before .before .before .before .before .before in
+    let a = h .before .before .before .before .before in
     let d = a .before .before .before .before in
-    let pre = d .before .before .before .before .pre in
-    ((pre .0 .0, d .declare-constants .ensures .0), ((d .declare-constants .ensures .1, a .admit-constants .ensures), pre .1))
+    let pre = d .before .before .before .before .pre in (
+      (pre .0 .0, d .declare-constants .ensures .0),
+      ((d .declare-constants .ensures .1, a .admit-constants .ensures, h .hint-constants .ensures), pre .1),
+    )
 
 pub evaluate-constants-spec : {M : Type 1} → statement M
 evaluate-constants-spec =
     tie.close
     (tie.spec
+    (λ c κs. search needs)
     (λ c κs. search needs)
     (λ c κs. search needs)
     settle-constants-requires

@@ -13,7 +13,7 @@ returns c =
     let first = second .before .before .before in
     let start = first .before .before .before in
     let a = start .args in
-    deepest-by (now (a .depths)) (a .r) (a .row) (start .pre)
+    deepest-by (now (a .depths)) (a .r) (a .row) (start .pre .0)
     (first .before .before .cell .ensures) (first .levels-in .ensures)
     (second .before .before .cell2 .ensures) (second .levels-in2 .ensures)
     (third .before .before .cell3 .ensures) (third .levels-in3 .ensures)
@@ -23,11 +23,11 @@ pub deepest-spec : {M : Type 1} → statement M
 deepest-spec =
     tie.close
     (tie.spec
+    (λ c κs. (search needs, c .pre .1))
     (λ c κs. search needs)
+    (λ c κs. (search needs, c .before .before .before .pre .1))
     (λ c κs. search needs)
-    (λ c κs. search needs)
-    (λ c κs. search needs)
-    (λ c κs. search needs)
+    (λ c κs. (search needs, c .before .before .before .before .before .before .pre .1))
     (λ c κs. search needs)
     (λ c κs. search needs)
     (λ c κs. search needs)

@@ -11,13 +11,17 @@ returns : tie.Need-returns
 returns c = λ bs h. sym (not-item _ bs (omega arith))
 
 follows-requires : tie.Need-follows-requires
-follows-requires c κs = (kind-below _ (c .before .before .pre .1), kind-below _ (stands-behind _ (c .before .before .pre .0) (omega arith)))
+follows-requires c κs =
+    let (shaped, known) = c .before .before .pre .0 in (
+      (kind-below _ known, kind-below _ (stands-behind _ shaped (omega arith))),
+      c .before .before .pre .1,
+    )
 
 returns-2 : tie.Need-returns-2
 returns-2 c =
     λ bs h.
     rw (c .before .follows .ensures, c .has-room .ensures)
-    (may-follow bs _ h _ (c .before .before .before .before .pre .0) (omega arith))
+    (may-follow bs _ h _ (c .before .before .before .before .pre .0 .0) (omega arith))
 
 pub may-follow-spec : {M : Type 1} → statement M
 may-follow-spec = tie.close (tie.spec returns follows-requires (λ c κs. search needs) returns-2)

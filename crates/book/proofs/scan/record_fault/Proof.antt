@@ -1,8 +1,7 @@
 -- `book::scan::record_fault` meets its contract. Behind each test that a record passes one thing more is known of it (`shaped` to `new`), and each
 -- return hands that to a law of proofs/Looks.antt.
 -- Assumes nothing.
-use Prim.Native.Nat.{suc}
-use mathlib.Core.Bool.{Bool}
+use Prim.Native.Nat.{ℕ, suc}
 use mathlib.Core.List.{List}
 use mathlib.Core.Path.{_≡_, refl, sym, _∙_}
 use native.Mathlib.Omega.{arith}
@@ -35,7 +34,7 @@ Behind-follow = tie.Else4
 abbrev Behind-name : Type 0
 Behind-name = tie.Else5
 
--- from each place back to `row_of`, to what is known at the start, and to the marks of the children
+-- from each place back to `row_of`, to what is known at the start, and to the roots that the children leave
 abbrev row : Behind-shape → Behind-row
 row c = c .before .before .before
 
@@ -45,8 +44,8 @@ start c = c .before .before
 abbrev shape : Behind-children → Behind-shape
 shape c = c .before .before .before
 
-abbrev marks : Behind-children → List Bool
-marks c = c .before .take-children .last .1 .1 .1 .1 .0
+abbrev roots : Behind-children → List ℕ
+roots c = c .before .take-children .last .1 .1 .1 .1 .0
 
 abbrev children : Behind-follow → Behind-children
 children c = c .before .before
@@ -55,21 +54,21 @@ abbrev follow : Behind-name → Behind-follow
 follow c = c .before .before .before
 
 -- what is known of the record at each of them
-shaped : (c : Behind-shape) → Shaped (start (row c) .pre) (row c .row-of .result)
+shaped : (c : Behind-shape) → Shaped (start (row c) .pre .0) (row c .row-of .result)
 shaped c =
     record { found = row c .row-of .ensures .1; fitting = sym (c .before .fits2 .ensures) ∙ not-false _ (c .if2 .left) }
 
-right : (c : Behind-children) → let r = row (shape c) in Right (start r .pre) (r .row-of .result) (marks c)
+right : (c : Behind-children) → let r = row (shape c) in Right (start r .pre .0) (r .row-of .result) (roots c)
 right c =
     let r = row (shape c) in
-    right-children (shaped (shape c)) (c .before .take-children .ensures (start r .pre .kept .used-is)) (c .if3 .left)
+    right-children (shaped (shape c)) (c .before .take-children .ensures _ (start r .pre .0 .kept .roots-are)) (c .if3 .left)
 
-stands : (c : Behind-follow) → let r = row (shape (children c)) in Stands (start r .pre) (r .row-of .result) (marks (children c))
+stands : (c : Behind-follow) → let r = row (shape (children c)) in Stands (start r .pre .0) (r .row-of .result) (roots (children c))
 stands c =
     let r = row (shape (children c)) in
     record {
       right = right (children c);
-      follows = sym (c .before .may-follow .ensures _ (start r .pre .placed)) ∙ not-false _ (c .if4 .left);
+      follows = sym (c .before .may-follow .ensures _ (start r .pre .0 .placed)) ∙ not-false _ (c .if4 .left);
     }
 
 -- what `declare` says of the name
@@ -79,36 +78,41 @@ declared :
     (c .declare .result ≡ nameFault (records (now (a .book))) (a .n))
     × Names (records (now (a .book))) (suc (a .n)) (c .declare .last .1 .0)
 declared c =
-    let ready = start (row (shape (children (c .before .before)))) .pre in
+    let ready = start (row (shape (children (c .before .before)))) .pre .0 in
     c .declare .ensures _ _ (ready .kept .names-are) (less ready) (ready .is)
 
-new : (c : Behind-name) → let r = row (shape (children (follow c))) in New (start r .pre) (r .row-of .result) (marks (children (follow c)))
+new : (c : Behind-name) → let r = row (shape (children (follow c))) in New (start r .pre .0) (r .row-of .result) (roots (children (follow c)))
 new c = record { stands = stands (follow c); new = sym (declared (c .before) .0) ∙ c .if5 .left }
 
 returns : tie.Need-returns
 returns c =
     let r = c .before .before in
-    turned-back Shape (no-row (start r .pre) (r .row-of .result) (r .row-of .ensures .1) (c .before .if1 .taken)) (c .fault .ensures)
+    turned-back Shape (no-row (start r .pre .0) (r .row-of .result) (r .row-of .ensures .1) (c .before .if1 .taken)) (c .fault .ensures)
 
 returns-2 : tie.Need-returns-2
 returns-2 c =
     let r = c .before .before .before .before in
     let fits-not = sym (c .before .before .fits2 .ensures) ∙ not-true _ (c .before .if2 .taken) in
-    turned-back Shape (not-shaped (start r .pre) (r .row-of .result) (r .row-of .ensures .1) fits-not) (c .fault2 .ensures)
+    turned-back Shape (not-shaped (start r .pre .0) (r .row-of .result) (r .row-of .ensures .1) fits-not) (c .fault2 .ensures)
+
+take-children-requires : tie.Need-take-children-requires
+take-children-requires c κs = let pre = start (row (c .before)) .pre in (search needs, (search needs, pre .1 .0))
 
 returns-3 : tie.Need-returns-3
 returns-3 c =
     let s = c .before .before .before .before in
-    let taken = c .before .before .take-children .ensures (start (row s) .pre .kept .used-is) in
+    let taken = c .before .before .take-children .ensures _ (start (row s) .pre .0 .kept .roots-are) in
     turned-back Child (wrong-child (shaped s) taken (c .before .if3 .taken)) (c .fault3 .ensures)
 
 may-follow-requires : tie.Need-may-follow-requires
-may-follow-requires c κs = (well-shaped (shaped (shape c)), start (row (shape c)) .pre .placed .known)
+may-follow-requires c κs =
+    let pre = start (row (shape c)) .pre in
+    ((well-shaped (shaped (shape c)), pre .0 .placed .known), pre .1 .1)
 
 returns-4 : tie.Need-returns-4
 returns-4 c =
     let t = c .before .before .before in
-    let placed = start (row (shape t)) .pre .placed in
+    let placed = start (row (shape t)) .pre .0 .placed in
     let follows-not = sym (c .before .before .may-follow .ensures _ placed) ∙ not-true _ (c .before .if4 .taken) in
     turned-back Follow (not-following (right t) follows-not) (c .fault4 .ensures)
 
@@ -130,25 +134,28 @@ add-depths : tie.Need-add-depths
 add-depths c =
     let d = c .before .before in
     let r = row (shape (children (follow (d .before .before)))) in
-    omega (arith, few-levels (start r .pre) (r .row-of .result) (r .row-of .ensures .1) (d .deepest .ensures))
+    omega (arith, few-levels (start r .pre .0) (r .row-of .result) (r .row-of .ensures .1) (d .deepest .ensures))
+
+cell-requires : tie.Need-cell-requires
+cell-requires c κs = (search needs, start (row (shape (children (follow (c .before .before .before .before))))) .pre .1 .0)
 
 returns-7 : tie.Need-returns-7
 returns-7 c =
-    let d = c .before .before in
-    let few = sym (c .before .too-deep .ensures) ∙ c .if6 .left in
-    passed (new (d .before .before)) (d .deepest .ensures) _ refl few (declared (d .before .before .before) .1)
+    let d = c .before .before .before in
+    let few = sym (c .before .before .too-deep .ensures) ∙ c .before .if6 .left in
+    passed (new (d .before .before)) (d .deepest .ensures) _ refl few (declared (d .before .before .before) .1) (c .cell .ensures)
 
 pub record-fault-spec : {M : Type 1} → statement M
 record-fault-spec =
     tie.close
     (tie.spec
-    (λ c κs. search needs)
+    (λ c κs. c .before .pre .1 .0)
     (λ c κs. search needs)
     returns
-    (λ c κs. search needs)
+    (λ c κs. (search needs, start (c .before) .pre .1 .0))
     (λ c κs. search needs)
     returns-2
-    (λ c κs. search needs)
+    take-children-requires
     (λ c κs. search needs)
     returns-3
     may-follow-requires
@@ -157,10 +164,12 @@ record-fault-spec =
     declare-requires
     (λ c κs. search needs)
     returns-5
-    (λ c κs. search needs)
+    (λ c κs. (search needs, start (row (shape (children (follow (c .before))))) .pre .1 .0))
     (λ c κs. search needs)
     (λ c κs. search needs)
     returns-6
     add-depths
+    (λ c. search needs)
+    cell-requires
     (λ c. search needs)
     returns-7)

@@ -15,7 +15,7 @@ returns c =
     fits-by
     (start .args .r)
     (start .args .row)
-    (start .pre)
+    (start .pre .0)
     (λ g e. c1 .allows .ensures g (c1 .before .before .cell .ensures ∙ e))
     (λ g e. c2 .allows2 .ensures g (c2 .before .before .cell2 .ensures ∙ e))
     (λ g e. c3 .allows3 .ensures g (c3 .before .before .cell3 .ensures ∙ e))
@@ -25,15 +25,15 @@ pub fits-spec : {M : Type 1} → statement M
 fits-spec =
     tie.close
     (tie.spec
-    (λ c κs. search needs)
+    (λ c κs. (search needs, c .pre .1))
     (λ c. search needs)
     (λ c κs. search needs)
-    (λ c κs. search needs)
+    (λ c κs. (search needs, c .before .before .before .pre .1))
     (λ c. search needs)
     (λ c κs. search needs)
-    (λ c κs. search needs)
+    (λ c κs. (search needs, c .before .before .before .before .before .before .pre .1))
     (λ c. search needs)
     (λ c κs. search needs)
-    (λ c κs. search needs)
+    (λ c κs. (search needs, c .before .before .before .before .before .before .before .before .before .pre .1))
     (λ c κs. search needs)
     returns)

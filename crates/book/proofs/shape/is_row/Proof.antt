@@ -12,4 +12,10 @@ returns c =
     in-row (a .r) (a .row) (p .before .before .cell .ensures) (p .before .cell2 .ensures) (p .cell3 .ensures)
 
 pub is-row-spec : {M : Type 1} → statement M
-is-row-spec = tie.close (tie.spec (λ c κs. search needs) (λ c κs. search needs) (λ c κs. search needs) returns)
+is-row-spec =
+    tie.close
+    (tie.spec
+    (λ c κs. (search needs, c .pre .1))
+    (λ c κs. (search needs, c .before .pre .1))
+    (λ c κs. (search needs, c .before .before .pre .1))
+    returns)
