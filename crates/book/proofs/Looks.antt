@@ -24,7 +24,7 @@ use Rattle.book.specs.Blocks.{recordCount, records}
 use Rattle.book.specs.Faults.{recordOf, shapeFault, childFault, before, mayFollow, followFault, nameFault, depthFault}
 use Rattle.book.specs.Refusal.{Cause, Refusal, shape, child, follow, name, depth, at, faulty, atRecord, holds}
 use Rattle.book.specs.Answer.{causeOf, refusalOf}
-use Rattle.book.specs.Rows.{rowAt, cellIn}
+use Rattle.book.specs.Rows.{rowAt, cellIn, groupOf}
 use Rattle.book.specs.Tables.{following, Roots, Takes, Names, Depths, deepestOf, Counted, Placed, Kept, Ready, Looked}
 use Rattle.book.proofs.Trees.{both-not, none-passes}
 use Rattle.book.proofs.Records.{records-length, record-here}
@@ -202,7 +202,7 @@ module _
             kept = λ h. record {
               roots-are =
                   roots-next (records book) n roots (omega arith) earlier
-                  (grouped ∙ ap (λ o. cellIn o 0) (of .shaped .found) ∙ ap (λ r. cellIn (rowOf r) 0) (ready .is))
+                  (grouped ∙ ap (λ o. cellIn o 0) (of .shaped .found) ∙ ap groupOf (ready .is))
                   (subst (λ cs. Roots (records book) n cs roots) same-children (of .taken .left refl));
               names-are = named;
               depths-are =

@@ -16,7 +16,7 @@ use Rattle.book.specs.Lists.{All, any, from, upTo}
 use Rattle.book.specs.Shape.{Group, Field, unused, flag, bits, name, name?, string, string?, ordinal, free, child, child?}
 use Rattle.book.specs.Shape.{Row, Child, childIn, childrenBy, children, rowOf, groupNumber, inGroup, isOf}
 use Rattle.book.specs.Faults.{recordOf, uses, usedBefore, usedTwice, isWrong, childFault}
-use Rattle.book.specs.Rows.{rowAt, fieldNumber, cellIn, groupIn}
+use Rattle.book.specs.Rows.{rowAt, fieldNumber, cellIn, groupIn, groupOf}
 use Rattle.book.specs.Tables.{Roots, usedAgain, Takes}
 use Rattle.book.proofs.Lists.{any-append, any-one, any-more}
 use Rattle.book.proofs.Cells.{field-a, field-b, field-c, group-some}
@@ -146,14 +146,15 @@ set-none roots x k less = go (ℕ-discrete k x)
     go (yes e) = rw (e, getD-set-same roots x 0 0 less, eq-eqb x x refl)
     go (no ne) = rw (getD-set-other roots x k 0 0 ne, ne-eqb x k (λ e. ne (sym e)))
 
+-- what is no root, or is none any more
 none-twice : (a b : Bool) (m : ℕ) → cond a 0 (cond b 0 m) ≡ cond (b || a) 0 m
 none-twice true true m = refl
 none-twice true false m = refl
 none-twice false true m = refl
 none-twice false false m = refl
 
--- the group of a record by number is that of a child, if the record is of its group and was not used
-of-group : (g : Group) (r : Record) → eqb (cellIn (rowOf r) 0) (groupNumber g) ≡ isOf g r
+-- a record is of a group if its number is the group's
+of-group : (g : Group) (r : Record) → eqb (groupOf r) (groupNumber g) ≡ isOf g r
 unfolding isOf cellIn
 of-group g r = go (rowOf r)
   where
@@ -161,7 +162,8 @@ of-group g r = go (rowOf r)
     go none = ne-eqb 0 (groupNumber g) (λ e. group-some g (sym e))
     go (some w) = same-number (groupNumber (w .group)) (groupNumber g)
 
-not-root : (u : Bool) (g : Group) (r : Record) → not (eqb (cond u 0 (cellIn (rowOf r) 0)) (groupNumber g)) ≡ not (isOf g r) || u
+-- the table does not have the number of a child's group where the record is of another one, or was used
+not-root : (u : Bool) (g : Group) (r : Record) → not (eqb (cond u 0 (groupOf r)) (groupNumber g)) ≡ not (isOf g r) || u
 not-root true g r = ap not (ne-eqb 0 (groupNumber g) (λ e. group-some g (sym e))) ∙ sym (or-true (not (isOf g r)))
 not-root false g r = ap not (of-group g r) ∙ sym (or-false (not (isOf g r)))
 
@@ -224,10 +226,10 @@ module _
   one-less :
       (g : Group) → x < 1344 → (k : ℕ) → k < n →
       getD (set roots x 0) k 0
-      ≡ cond (usedBefore rs n k || any (isNumber k) (cs ++ (record { group = g; number = x } ∷ []))) 0 (cellIn (rowOf (recordOf rs k)) 0)
+      ≡ cond (usedBefore rs n k || any (isNumber k) (cs ++ (record { group = g; number = x } ∷ []))) 0 (groupOf (recordOf rs k))
   one-less g low k less =
       let c : Child = record { group = g; number = x } in
-      let m : ℕ = cellIn (rowOf (recordOf rs k)) 0 in
+      let m : ℕ = groupOf (recordOf rs k) in
       set-none roots x k (omega (arith, u .long))
       ∙ ap (λ m. cond (eqb x k) 0 m) (u .groups k less)
       ∙ none-twice (eqb x k) (usedBefore rs n k || any (isNumber k) cs) m
@@ -299,7 +301,7 @@ none-later n k late (c ∷ cs) p = rw (ne-eqb (c .number) k (λ e. omega (arith,
 -- all the children of n are roots no more, and n is one
 pub roots-next :
     (rs : List Record) (n : ℕ) (roots : List ℕ) {group : ℕ} → n < 1344 → All (λ c. c .number < n) (children (recordOf rs n)) →
-    group ≡ cellIn (rowOf (recordOf rs n)) 0 → Roots rs n (children (recordOf rs n)) roots → Roots rs (suc n) [] (set roots n group)
+    group ≡ groupOf (recordOf rs n) → Roots rs n (children (recordOf rs n)) roots → Roots rs (suc n) [] (set roots n group)
 unfolding uses any
 roots-next rs n roots {group} low earlier is u =
     record { long = length-set roots n group ∙ u .long; groups = λ k less. groups k less (ℕ-discrete k n); later = later }
@@ -312,13 +314,13 @@ roots-next rs n roots {group} low earlier is u =
 
     groups :
         (k : ℕ) → k < suc n → Dec (k ≡ n) →
-        getD (set roots n group) k 0 ≡ cond (usedBefore rs (suc n) k || false) 0 (cellIn (rowOf (recordOf rs k)) 0)
+        getD (set roots n group) k 0 ≡ cond (usedBefore rs (suc n) k || false) 0 (groupOf (recordOf rs k))
     groups k less (yes e) =
         rw (e, getD-set-same roots n group 0 (omega (arith, u .long)), late n (omega arith)) is
     groups k less (no ne) =
         getD-set-other roots n k group 0 ne
         ∙ u .groups k (omega arith)
-        ∙ ap (λ b. cond b 0 (cellIn (rowOf (recordOf rs k)) 0)) (sym (used-before-next rs n k) ∙ sym (or-false (usedBefore rs (suc n) k)))
+        ∙ ap (λ b. cond b 0 (groupOf (recordOf rs k))) (sym (used-before-next rs n k) ∙ sym (or-false (usedBefore rs (suc n) k)))
 
 -- what is found of all children of n is cause 5
 pub child-fault : (rs : List Record) (n : ℕ) (w : Bool) (u : List ℕ) → Takes rs n [] (children (recordOf rs n)) w u → w ≡ childFault rs n

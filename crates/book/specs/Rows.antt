@@ -7,9 +7,10 @@ use mathlib.Core.Option.{Option, some, none}
 use mathlib.Core.Path.{_≡_}
 use lib.Dec.{eqb}
 use lib.ListN.{getD}
+use Rattle.record.specs.declared.Record.{Record}
 use Rattle.book.specs.Lists.{at}
 use Rattle.book.specs.Shape.{Field, unused, flag, bits, name, name?, string, string?, ordinal, free, child, child?}
-use Rattle.book.specs.Shape.{Row, Child, table, groupNumber}
+use Rattle.book.specs.Shape.{Row, Child, table, rowOf, groupNumber}
 
 -- row w of the table
 unfoldable pub rowAt : ℕ → Option Row
@@ -52,6 +53,10 @@ numbersOf w =
 unfoldable pub cellIn : Option Row → ℕ → ℕ
 cellIn none i = 0
 cellIn (some w) i = getD (numbersOf w) i 0
+
+-- the number of the group of a record, 0 where it has no row
+abbrev pub groupOf : Record → ℕ
+groupOf r = cellIn (rowOf r) 0
 
 -- the code's table has the rows by number, cell by cell
 pub record ShapeTable (t : List (List ℕ)) : Type 0 where

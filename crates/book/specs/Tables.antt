@@ -11,8 +11,8 @@ use Rattle.record.specs.declared.Record.{Record}
 use Rattle.book.specs.declared.fault.Fault.{Fault}
 use Rattle.book.specs.declared.follow.Place.{Place}
 use Rattle.book.specs.Lists.{any, find}
-use Rattle.book.specs.Shape.{Child, rowOf}
-use Rattle.book.specs.Rows.{cellIn}
+use Rattle.book.specs.Shape.{Child}
+use Rattle.book.specs.Rows.{groupOf}
 use Rattle.book.specs.Follow.{isOneOf, followOf}
 use Rattle.book.specs.Blocks.{recordCount, records}
 use Rattle.book.specs.Faults.{recordOf, usedBefore, isWrong, usedTwice, before, isKind, isDeclaration, isUnionTombstone, variantOpen}
@@ -35,7 +35,7 @@ pub record Roots (rs : List Record) (n : ℕ) (cs : List Child) (roots : List �
   pub long : length roots ≡ 1344
   pub groups :
       (k : ℕ) → k < n →
-      getD roots k 0 ≡ cond (usedBefore rs n k || any (λ c. eqb (c .number) k) cs) 0 (cellIn (rowOf (recordOf rs k)) 0)
+      getD roots k 0 ≡ cond (usedBefore rs n k || any (λ c. eqb (c .number) k) cs) 0 (groupOf (recordOf rs k))
   -- no record before n has n, or one behind it, as a child
   pub later : (k : ℕ) → n ≤ k → usedBefore rs n k ≡ false
 

@@ -94,7 +94,7 @@ pub record UndoneName (undone : List Bool) (e : Expr) (o : Option ℕ) : Type 0 
   pub nothing : o ≡ none → none ≡ find (λ n. getD undone n false) (refs e)
   pub is : (n : ℕ) → o ≡ some n → Names e n × (getD undone n false ≡ true)
 
--- entry i of a list goes on to a later place
+-- entry i of a list goes on, to a place that is no earlier one
 pub record GoesOn (i : ℕ) (l l′ : List ℕ) : Type 0 where
   pub to : ℕ
   pub onward : getD l i 0 ≤ to
