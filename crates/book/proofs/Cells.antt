@@ -249,6 +249,25 @@ fits-by r i less p q s t =
     (λ j. p (w .a) (field-a i e) j && q (w .b) (field-b i e) j && s (w .c) (field-c i e) j && t (w .v) (field-v i e) j)
     ∙ ap (fits r) (sym e)
 
+-- the first field that does not hold what it may decides
+module _ (r : Record) (i : ℕ) (less : i < 38) {x : Bool} (p : (g : Field) → cellIn (rowAt i) 4 ≡ fieldNumber g → x ≡ allows g (r .a)) where
+  pub fails-a : x ≡ false → false ≡ fits r (rowAt i)
+  fails-a off =
+      let (w, e) = row-below i less in
+      rw (e, ← p (w .a) (field-a i e), off)
+
+  module _ {y : Bool} (q : (g : Field) → cellIn (rowAt i) 5 ≡ fieldNumber g → y ≡ allows g (r .b)) (on : x ≡ true) where
+    pub fails-b : y ≡ false → false ≡ fits r (rowAt i)
+    fails-b off =
+        let (w, e) = row-below i less in
+        rw (e, ← p (w .a) (field-a i e), ← q (w .b) (field-b i e), on, off)
+
+    pub fails-c :
+        {z : Bool} → ((g : Field) → cellIn (rowAt i) 6 ≡ fieldNumber g → z ≡ allows g (r .c)) → y ≡ true → z ≡ false → false ≡ fits r (rowAt i)
+    fails-c s so off =
+        let (w, e) = row-below i less in
+        rw (e, ← p (w .a) (field-a i e), ← q (w .b) (field-b i e), ← s (w .c) (field-c i e), on, so, off)
+
 -- the group of the child that a field names, by the field's number and by the value
 abbrev childBy : Bool → Bool → Bool → ℕ → ℕ
 childBy below there missing f = cond below 0 (cond there (f - 10) (cond missing 0 (f - 20)))

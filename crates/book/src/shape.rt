@@ -230,7 +230,10 @@ fn last_in(f: u8) -> u64
 fn allows(f: u8, x: u64) -> bool
     ensures { λ r. ⌜ ((g : Field) → f ≡ fieldNumber g → r ≡ allows g x) ⌝ }
 {
-    (x <= last_in(f)) | (f == MAYBE_NAME) & (x == 65535)
+    if x <= last_in(f) {
+        return true;
+    }
+    (f == MAYBE_NAME) & (x == 65535)
 }
 
 // Whether every field of a record is inside the values of a row.
@@ -239,10 +242,16 @@ pub(crate) fn fits(r: Record, row: u8, table: &[[u8; 8]; 38]) -> bool
     requires { ⌜ ShapeTable (now table) ⌝ }
     ensures { λ x. ⌜ x ≡ fits r (rowAt row) ⌝ }
 {
-    allows(cell(row, FIELD_A, table), r.a as u64)
-        & allows(cell(row, FIELD_B, table), r.b as u64)
-        & allows(cell(row, FIELD_C, table), r.c as u64)
-        & allows(cell(row, FIELD_V, table), r.v)
+    if !allows(cell(row, FIELD_A, table), r.a as u64) {
+        return false;
+    }
+    if !allows(cell(row, FIELD_B, table), r.b as u64) {
+        return false;
+    }
+    if !allows(cell(row, FIELD_C, table), r.c as u64) {
+        return false;
+    }
+    allows(cell(row, FIELD_V, table), r.v)
 }
 
 // The group of the child that a field with the value x names, 0 where it names none.

@@ -1,4 +1,5 @@
 pub mod Numbers
+pub mod Pads
 pub mod Trips
 pub mod Sums
 pub mod Writes

@@ -73,6 +73,20 @@ halves-at k s at l h = halves k (drop at s) (drop (at + k) s) l (sym (drop-drop 
 pub one-at : (s : List ℕ) (at : ℕ) → getD s at 0 ≡ littleEndian 1 (drop at s)
 one-at s at = sym (one-there (drop at s) ∙ getD-drop at s 0 0 ∙ ap (λ (i : ℕ). getD s i 0) (add-zero at))
 
+-- a number is told by its bytes alone
+front : (n : ℕ) (s : List ℕ) → littleEndian (suc n) s ≡ getD s 0 0 + 256 * littleEndian n (drop 1 s)
+unfolding littleEndian
+front n [] = rw (none-there n)
+front n (b ∷ s) = refl
+
+pub same-number : (n : ℕ) (s t : List ℕ) → ((j : ℕ) → j < n → getD s j 0 ≡ getD t j 0) → littleEndian n s ≡ littleEndian n t
+unfolding littleEndian
+same-number zero s t same = refl
+same-number (suc n) s t same =
+    let rest : littleEndian n (drop 1 s) ≡ littleEndian n (drop 1 t) =
+    same-number n (drop 1 s) (drop 1 t) (λ j less. rw (getD-drop 1 s j 0, getD-drop 1 t j 0) (same (1 + j) (omega arith))) in
+    front n s ∙ rw (same 0 (omega arith), rest) (sym (front n t))
+
 -- n bytes make a number below 256^n
 pub number-below : (n : ℕ) (s : List ℕ) → AreBytes s → littleEndian n s < 256 ^ n
 unfolding littleEndian

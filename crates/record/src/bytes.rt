@@ -34,14 +34,6 @@ pub fn four(s: &[u8]) -> u32
     low + 0x1_0000 * high
 }
 
-pub(crate) fn eight(s: &[u8]) -> u64
-    ensures { λ r. ⌜ r ≡ littleEndian 8 (now (s .entry)) ⌝ }
-{
-    let low = four(s) as u64;
-    let high = four(from(s, 4)) as u64;
-    low + 0x1_0000_0000 * high
-}
-
 // A byte as a number of 16 bits.
 fn wide(x: u8) -> u16
     ensures { λ r. ⌜ (r ≡ x) × (r < 256) ⌝ }

@@ -1,8 +1,8 @@
 // The 24-byte record and the 512-byte block of a signal book.
 
 ghost use mathlib.Core.Path.{_≡_};
-ghost use Prim.Native.Nat.{_+_, _*_, _/_, _%_, _≤_};
-ghost use lib.ListN.{length, drop};
+ghost use Prim.Native.Nat.{ℕ, _+_, _*_, _/_, _%_, _≤_, _<_};
+ghost use lib.ListN.{length, drop, getD};
 ghost use Rattle.record.specs.Layout.{decodeRecord, encodeRecord, recordAt};
 
 pub mod bytes;
@@ -34,25 +34,21 @@ pub struct Record {
     pub span: Span,
 }
 
-// The record that stands at the front of s. A byte past the end counts as 0.
-fn decode(s: &[u8]) -> Record
-    ensures { λ r. ⌜ r ≡ decodeRecord (now (s .entry)) ⌝ }
+// The 24 bytes of s from a place on. A byte past the end counts as 0.
+fn padded(s: &[u8], at: usize) -> [u8; RECORD_BYTES]
+    ensures { λ r. ⌜ (length r ≡ 24) × ((j : ℕ) → j < 24 → getD r j 0 ≡ getD (drop at (now (s .entry))) j 0) ⌝ }
 {
-    Record {
-        kind: bytes::one(s),
-        sub: bytes::one(bytes::from(s, 1)),
-        a: bytes::two(bytes::from(s, 2)),
-        b: bytes::two(bytes::from(s, 4)),
-        c: bytes::two(bytes::from(s, 6)),
-        v: bytes::eight(bytes::from(s, 8)),
-        span: Span {
-            offset: bytes::four(bytes::from(s, 16)),
-            len: bytes::four(bytes::from(s, 20)),
-        },
+    let rest = bytes::from(s, at);
+    let mut x = [0u8; RECORD_BYTES];
+    let mut i: usize = 0;
+    while i < RECORD_BYTES {
+        x[i] = bytes::one(bytes::from(rest, i));
+        i += 1;
     }
+    x
 }
 
-// The record that stands at a place of s, all of it: the same without a look at each byte.
+// The record that stands at a place of s, all of it.
 fn decode_in(s: &[u8], at: usize) -> Record
     requires { ⌜ at + 24 ≤ length (now s) ⌝ }
     ensures { λ r. ⌜ r ≡ decodeRecord (drop at (now (s .entry))) ⌝ }
@@ -93,7 +89,7 @@ pub fn record_at(book: &[u8], r: u16) -> Record
     if at + RECORD_BYTES <= book.len() {
         decode_in(book, at)
     } else {
-        decode(bytes::from(book, at))
+        decode_in(&padded(book, at), 0)
     }
 }
 

@@ -8,10 +8,9 @@ ghost use Rattle.record.specs.Layout.{decodeRecord};
 ghost use Rattle.record.specs.Write.{roomFor, put, cleared};
 use crate::RECORD_BYTES;
 use crate::Record;
-use crate::bytes;
-use crate::decode;
 use crate::decode_in;
 use crate::encode;
+use crate::padded;
 
 // The number of records that may be written to dst: `most`, or as many as it holds whole.
 fn room(dst: &[u8], most: u16) -> u16
@@ -64,6 +63,6 @@ pub fn written_at(s: &[u8], n: u16) -> Record
     if at + RECORD_BYTES <= s.len() {
         decode_in(s, at)
     } else {
-        decode(bytes::from(s, at))
+        decode_in(&padded(s, at), 0)
     }
 }

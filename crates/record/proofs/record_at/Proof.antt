@@ -1,4 +1,4 @@
--- `record::record_at` meets its contract. The record that stands at the place is decoded.
+-- `record::record_at` meets its contract. The record that stands at the place is decoded, or the bytes that are there of it, with zeros behind them.
 -- Assumes nothing.
 use Prim.Native.Nat.{ℕ}
 use mathlib.Core.Path.{ap, _∙_}
@@ -6,6 +6,7 @@ use lib.ListN.{drop}
 use denote.Ref.{now}
 use borrow.Author.Needs.{needs}
 use Rattle.record.specs.Layout.{decodeRecord, recordAt}
+use Rattle.record.proofs.Pads.{same-record}
 use Rattle.record.proofs.record_at.Statement.{statement}
 use Rattle.record.proofs.record_at.Tie as tie
 
@@ -18,10 +19,10 @@ returns c =
 returns-2 : tie.Need-returns-2
 unfolding recordAt
 returns-2 c =
-    let s = now (c .before .before .before .before .before .args .book) in
-    c .decode .ensures
-    ∙ ap decodeRecord (c .before .from .ensures)
-    ∙ ap (λ (i : ℕ). decodeRecord (drop i s)) (c .before .before .before .place-of .ensures)
+    let s = now (c .before .before .before .before .before .before .args .book) in
+    c .decode-in2 .ensures
+    ∙ same-record (c .before .before .padded .result) (drop (c .before .before .before .before .place-of .result) s) (c .before .before .padded .ensures .1)
+    ∙ ap (λ (i : ℕ). decodeRecord (drop i s)) (c .before .before .before .before .place-of .ensures)
 
 pub record-at-spec : {M : Type 1} → statement M
 record-at-spec =
@@ -31,6 +32,7 @@ record-at-spec =
     (λ c. search needs)
     (λ c κs. search needs)
     (λ c κs. search needs)
+    (λ c. search needs)
     (λ c κs. search needs)
     returns
     returns-2)
