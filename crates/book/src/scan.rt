@@ -113,13 +113,22 @@ fn first_by(
     Fault::Nothing
 }
 
-// The first fault of causes 4 to 8 in a book of so many records. The tables are copied here and lent, since each index
-// into a constant copies the whole of it.
+// The same by the table of shapes. The follow table is copied here and lent, since each index into a constant copies the
+// whole of it.
+fn first_by_shapes(book: &[u8], count: u16, table: &[[u8; 8]; 38]) -> Fault
+    requires { ⌜ Counted (now book) count ⌝ }
+    requires { ⌜ ShapeTable (now table) ⌝ }
+    ensures { λ r. ⌜ refusalOf r ≡ find (holds (now (book .entry))) (flatMap atRecord (upTo count)) ⌝ }
+{
+    let follow = FOLLOW;
+    first_by(book, count, table, &follow)
+}
+
+// The first fault of causes 4 to 8 in a book of so many records. The table of shapes is copied here and lent.
 pub(crate) fn first_fault(book: &[u8], count: u16) -> Fault
     requires { ⌜ Counted (now book) count ⌝ }
     ensures { λ r. ⌜ refusalOf r ≡ find (holds (now (book .entry))) (flatMap atRecord (upTo count)) ⌝ }
 {
     let table = TABLE;
-    let follow = FOLLOW;
-    first_by(book, count, &table, &follow)
+    first_by_shapes(book, count, &table)
 }
