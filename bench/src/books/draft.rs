@@ -1,6 +1,7 @@
 //! Records in the making.
 
 use books::{Book, Record};
+use std::collections::HashMap;
 
 /// Record places of one block.
 pub const PLACES: usize = 21;
@@ -26,6 +27,30 @@ pub struct Draft {
 }
 
 impl Draft {
+    /// The book, with its names numbered in the order in which they come, as a parser numbers the words that it meets.
+    pub fn numbered(self) -> Book {
+        self.numbered_from(0)
+    }
+
+    /// The same from a number on.
+    pub fn numbered_from(mut self, first: u16) -> Book {
+        let mut numbers = HashMap::new();
+        for r in &mut self.book.records {
+            let names = match r.kind {
+                4 | 6 | 11 | 20..=25 | 30 | 31 | 33 => 1,
+                5 => 2,
+                16 => usize::from(r.sub == 5),
+                35 => usize::from(r.a != NONE),
+                _ => 0,
+            };
+            for name in [&mut r.a, &mut r.b].into_iter().take(names) {
+                let next = first + numbers.len() as u16;
+                *name = *numbers.entry(*name).or_insert(next);
+            }
+        }
+        self.book
+    }
+
     /// In a book with wildcard imports.
     pub fn wild() -> Draft {
         Draft { book: Book { wildcards: true, records: Vec::new() } }

@@ -17,6 +17,9 @@ pub const SIZES: [usize; 7] = [1, 2, 4, 8, 16, 32, 64];
 /// The kind that every other one is held to.
 pub const ORDINARY: &str = "ordinary stations";
 
+/// The same books with names from 2,000 on, as one has whose words are a few out of many.
+pub const SPREAD: &str = "ordinary, names spread";
+
 /// How a kind is made, for so many blocks. None where so few have no such book.
 enum Make {
     Accepted(fn(usize) -> Option<Draft>),
@@ -35,8 +38,9 @@ enum Place {
 use Make::{Accepted, Refused};
 use Place::{LastBlock, LastRecord, Zero};
 
-const KINDS: [(&str, Make); 26] = [
+const KINDS: [(&str, Make); 27] = [
     (ORDINARY, Accepted(ordinary::book)),
+    (SPREAD, Accepted(ordinary::book)),
     ("constants, best order", Accepted(constants::forwards)),
     ("constants, worst order", Accepted(constants::backwards)),
     ("constants, first names all", Accepted(constants::sum_first)),
@@ -109,7 +113,8 @@ pub fn samples(sizes: &[usize]) -> Vec<Sample> {
 fn sample((kind, make): &'static (&'static str, Make), blocks: usize) -> Option<Sample> {
     let last = draft::PLACES * blocks - 1;
     let (bytes, expected) = match make {
-        Accepted(make) => (make(blocks)?.book.bytes(), None),
+        Accepted(make) if *kind == SPREAD => (make(blocks)?.numbered_from(2_000).bytes(), None),
+        Accepted(make) => (make(blocks)?.numbered().bytes(), None),
         Refused(cause, place, make) => {
             let place = match place {
                 Zero => 0,

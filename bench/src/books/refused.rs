@@ -13,7 +13,7 @@ const ENDLESS: u16 = 3_901;
 const LAST: u16 = 3_950;
 
 fn stations(blocks: usize) -> Vec<u8> {
-    ordinary::book(blocks).map(|d| d.book.bytes()).unwrap_or_default()
+    ordinary::book(blocks).map(|d| d.numbered().bytes()).unwrap_or_default()
 }
 
 /// The last byte is missing.
@@ -42,7 +42,7 @@ pub fn block(blocks: usize) -> Option<Vec<u8>> {
 fn with_last(blocks: usize, kind: u8, [a, b]: [u16; 2]) -> Option<Vec<u8>> {
     let mut d = ordinary::book(blocks)?;
     *d.book.records.last_mut()? = Record { kind, a, b, ..Record::default() };
-    Some(d.book.bytes())
+    Some(d.numbered().bytes())
 }
 
 /// There is no kind 17.
@@ -72,7 +72,7 @@ pub fn depth(blocks: usize) -> Option<Vec<u8>> {
     ordinary::stations(&mut d, records.checked_sub(65)?);
     let leaf = d.primitive(U8);
     (0..64).fold(leaf, |child, _| d.array(child));
-    Some(d.book.bytes())
+    Some(d.numbered().bytes())
 }
 
 /// The last newtype is over a generic alias of itself.
@@ -85,7 +85,7 @@ pub fn too_deep(blocks: usize) -> Option<Vec<u8>> {
     d.generic_alias(ENDLESS, target, T);
     let t = d.generic_u8(ENDLESS);
     d.newtype(LAST, t);
-    Some(d.book.bytes())
+    Some(d.numbered().bytes())
 }
 
 /// The last newtype writes more than there is room for.
@@ -96,5 +96,5 @@ pub fn full(blocks: usize) -> Option<Vec<u8>> {
     let leaf = d.primitive(U8);
     let t = hostile::fanned(&mut d, 10, leaf);
     d.newtype(LAST, t);
-    Some(d.book.bytes())
+    Some(d.numbered().bytes())
 }
