@@ -6,7 +6,7 @@ use mathlib.Core.List.{List, [], _∷_, map, List·Memᴰ}
 use mathlib.Core.Option.{Option, some, none}
 use mathlib.Core.Path.{_≡_, refl, sym, ap, _∙_}
 use native.Mathlib.Omega.{arith}
-use lib.ListN.{length, take, getD, replicate, length-map}
+use lib.ListN.{length, take, getD, replicate, length-map, length-take}
 use lib.Seq.{take-at}
 use Rattle.book.specs.Lists.{All, find}
 use Rattle.book.specs.Outline.{read}
@@ -30,17 +30,17 @@ none-known zero n = refl
 none-known (suc m) zero = refl
 none-known (suc m) (suc n) = none-known m n
 
-empty-arrays : (worth : List ℕ) → tableOf (replicate 4096 false) worth ≡ empty
+empty-arrays : (m : ℕ) (worth : List ℕ) → tableOf (replicate m false) worth ≡ empty
 unfolding tableOf
-empty-arrays worth = λ i n. at n i
+empty-arrays m worth = λ i n. at n i
   where
-    at : (n : ℕ) → tableOf (replicate 4096 false) worth n ≡ none
-    at n = rw (none-known 4096 n)
+    at : (n : ℕ) → tableOf (replicate m false) worth n ≡ none
+    at n = rw (none-known m n)
 
 -- over such arrays the constants that are reached are those of the book
-pub over-nothing : (book worth : List ℕ) → outcomeOver book (replicate 4096 false) worth ≡ settled (read book)
+pub over-nothing : (m : ℕ) (book worth : List ℕ) → outcomeOver book (replicate m false) worth ≡ settled (read book)
 unfolding outcomeOver settled
-over-nothing book worth = ap (λ t. outcome each t (constants (read book))) (empty-arrays worth)
+over-nothing m book worth = ap (λ t. outcome each t (constants (read book))) (empty-arrays m worth)
 
 -- no more are reached than are declared
 order-few : (most : ℕ) (w : Way) (cs : List Constant) (done : List ℕ) → length (orderFrom most w cs done) ≤ most
@@ -83,15 +83,19 @@ filled-front :
 unfolding filled
 filled-front f xs l₀ {m} count is = rw is (take-at (map f xs) _ m (length-map xs f ∙ sym count))
 
+-- so there is room for it
+pub front-long : {A : Type 0} (f : Settled → A) (xs : List Settled) (l : List A) (m : ℕ) → m ≡ length xs → take m l ≡ map f xs → m ≤ length l
+front-long f xs l m count is = omega (arith, ap length is, length-take m l, length-map xs f)
+
 -- evaluating over empty arrays leaves them
 pub evaluated-holds :
     {book : List ℕ} {m : ℕ} {known known′ : List Bool} {worth worth′ order order′ : List ℕ} {stored stored′ : List Bool}
     {values values′ : List ℕ} →
-    Readable book → known ≡ replicate 4096 false →
+    Readable book → known ≡ replicate (length known) false →
     Evaluated (outcomeOver book known worth) m known known′ worth worth′ order order′ stored stored′ values values′ →
     Holds book m order′ stored′ values′
 evaluated-holds {book} {known = known} {worth = worth} {order = order₀} {stored = stored₀} {values = values₀} readable nothing e₀ =
-    let same : outcomeOver book known worth ≡ settled (read book) = rw nothing (over-nothing book worth) in
+    let same : outcomeOver book known worth ≡ settled (read book) = ap (λ k. outcomeOver book k worth) nothing ∙ over-nothing (length known) book worth in
     let e = rw same at e₀ in
     let xs = settled (read book) in
     record {

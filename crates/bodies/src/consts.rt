@@ -17,9 +17,7 @@ use crate::emits;
 use record::Record;
 use types::LowerCtx;
 use types::Lowered;
-use types::NAMES;
 use types::Part;
-use types::RECORDS;
 use types::RESULTS;
 use types::Resolved;
 use types::Scope;
@@ -71,10 +69,10 @@ fn lower_constant(
     value: u64,
     scope: Scope,
     ctx: LowerCtx,
-    ambiguous: &[bool; NAMES],
-    aliases: &[u32; NAMES],
-    generics: &[u32; RECORDS],
-    numbers: &mut [u32; NAMES],
+    ambiguous: &[bool],
+    aliases: &[u32],
+    generics: &[u32],
+    numbers: &mut [u32],
     pairs: &mut [u32; RESULTS],
     results: &mut [u8],
     diagnostics: &mut [u8],
@@ -119,15 +117,15 @@ fn lower_constant(
 pub fn lower_constants(
     book: &[u8],
     m: u16,
-    order: &[u16; RECORDS],
-    stored: &[bool; RECORDS],
-    values: &[u64; RECORDS],
+    order: &[u16],
+    stored: &[bool],
+    values: &[u64],
     scope: Scope,
     ctx: LowerCtx,
-    ambiguous: &[bool; NAMES],
-    aliases: &[u32; NAMES],
-    generics: &[u32; RECORDS],
-    numbers: &mut [u32; NAMES],
+    ambiguous: &[bool],
+    aliases: &[u32],
+    generics: &[u32],
+    numbers: &mut [u32],
     pairs: &mut [u32; RESULTS],
     results: &mut [u8],
     diagnostics: &mut [u8],

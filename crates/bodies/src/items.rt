@@ -18,8 +18,6 @@ use crate::where_expr;
 use record::write;
 use types::LowerCtx;
 use types::Lowered;
-use types::NAMES;
-use types::RECORDS;
 use types::RESULTS;
 use types::Resolved;
 use types::Scope;
@@ -67,10 +65,10 @@ fn lower_field(
     delta: bool,
     scope: Scope,
     ctx: LowerCtx,
-    ambiguous: &[bool; NAMES],
-    aliases: &[u32; NAMES],
-    generics: &[u32; RECORDS],
-    numbers: &mut [u32; NAMES],
+    ambiguous: &[bool],
+    aliases: &[u32],
+    generics: &[u32],
+    numbers: &mut [u32],
     pairs: &mut [u32; RESULTS],
     results: &mut [u8],
     diagnostics: &mut [u8],
@@ -131,10 +129,10 @@ fn tombstone_type(
     n: u16,
     scope: Scope,
     ctx: LowerCtx,
-    ambiguous: &[bool; NAMES],
-    aliases: &[u32; NAMES],
-    generics: &[u32; RECORDS],
-    numbers: &mut [u32; NAMES],
+    ambiguous: &[bool],
+    aliases: &[u32],
+    generics: &[u32],
+    numbers: &mut [u32],
     pairs: &mut [u32; RESULTS],
     results: &mut [u8],
     diagnostics: &mut [u8],
@@ -172,10 +170,10 @@ fn lower_tombstone(
     n: u16,
     scope: Scope,
     ctx: LowerCtx,
-    ambiguous: &[bool; NAMES],
-    aliases: &[u32; NAMES],
-    generics: &[u32; RECORDS],
-    numbers: &mut [u32; NAMES],
+    ambiguous: &[bool],
+    aliases: &[u32],
+    generics: &[u32],
+    numbers: &mut [u32],
     pairs: &mut [u32; RESULTS],
     results: &mut [u8],
     diagnostics: &mut [u8],
@@ -231,10 +229,10 @@ pub(crate) fn lower_item(
     delta: bool,
     scope: Scope,
     ctx: LowerCtx,
-    ambiguous: &[bool; NAMES],
-    aliases: &[u32; NAMES],
-    generics: &[u32; RECORDS],
-    numbers: &mut [u32; NAMES],
+    ambiguous: &[bool],
+    aliases: &[u32],
+    generics: &[u32],
+    numbers: &mut [u32],
     pairs: &mut [u32; RESULTS],
     results: &mut [u8],
     diagnostics: &mut [u8],

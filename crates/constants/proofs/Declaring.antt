@@ -3,12 +3,12 @@
 use Prim.Native.Nat.{ℕ, suc, _+_, _-_, _≤_, _<_}
 use mathlib.Core.Bool.{Bool, true, false, cond, _||_, and-true, or-true, or-false}
 use mathlib.Core.List.{List, [], _∷_, _++_, map, map-append, append-nil, append-assoc}
-use mathlib.Core.Path.{_≡_, refl, sym, ap, _∙_}
+use mathlib.Core.Path.{_≡_, refl, sym, ap, _∙_, subst}
 use native.Mathlib.Decide.{ℕ-discrete}
 use native.Mathlib.Numerals.{add-one}
 use native.Mathlib.Omega.{arith}
 use lib.Dec.{eqb}
-use lib.ListN.{length, take, getD, set, replicate, length-set, length-replicate, getD-replicate}
+use lib.ListN.{length, take, getD, set, length-set}
 use lib.Seq.{length-take-le, take-suc-set, getD-set-same, getD-set-other}
 use borrow.Author.Tests.{eq-eqb, ne-eqb}
 use Rattle.record.specs.declared.Record.{Record}
@@ -21,39 +21,25 @@ use Rattle.book.specs.Trees.{Readable}
 use Rattle.book.proofs.Lists.{any-more}
 use Rattle.constants.specs.Order.{Constant, declares}
 use Rattle.constants.specs.OfBook.{constantAt, constants}
-use Rattle.constants.specs.Tables.{declared, IsConstant, Places, Undone}
-use Rattle.constants.proofs.Numbered.{its-name}
+use Rattle.constants.specs.Tables.{declared, IsConstant, NamesBelow, Places, Undone}
 
--- no name is undone at first, and one more is opened
-undone-start : Undone [] [] (set (replicate 4098 false) 4096 true)
-unfolding any
-undone-start =
-    let none : List Bool = replicate 4098 false in
-    record {
-      long = length-set none 4096 true ∙ length-replicate 4098 false;
-      names = λ n low. getD-set-other none 4096 n true false (omega arith) ∙ getD-replicate 4098 n false false (omega arith);
-      never = getD-set-same none 4096 true false (omega (arith, length-replicate 4098 false));
-      at-once = getD-set-other none 4096 4097 true false (omega arith) ∙ getD-replicate 4098 4097 false false (omega arith);
-    }
-
+-- one more name is opened
 undone-more :
-    {cs : List Constant} {undone : List Bool} → Undone cs [] undone → (c : Constant) → c .name < 4096 →
+    {cs : List Constant} {undone : List Bool} → Undone cs [] undone → (c : Constant) → c .name < length undone →
     Undone (cs ++ (c ∷ [])) [] (set undone (c .name) true)
 unfolding any
-undone-more {cs} {undone} u c low = record {
-  long = length-set undone (c .name) true ∙ u .long;
-  names = λ n inside. go n inside (ℕ-discrete n (c .name)) ∙ sym (and-true _ ∙ any-more (λ c. eqb (c .name) n) cs c);
-  never = getD-set-other undone (c .name) 4096 true false (omega arith) ∙ u .never;
-  at-once = getD-set-other undone (c .name) 4097 true false (omega arith) ∙ u .at-once;
+undone-more {cs} {undone} u c inside = record {
+  long = omega (arith, length-set undone (c .name) true, u .long);
+  names = λ n. go n (ℕ-discrete n (c .name)) ∙ sym (and-true _ ∙ any-more (λ c. eqb (c .name) n) cs c);
 }
   where
-    go : (n : ℕ) → n < 4096 → Dec (n ≡ c .name) → getD (set undone (c .name) true) n false ≡ declares cs n || eqb (c .name) n
-    go n inside (yes e) =
-        rw (e, getD-set-same undone (c .name) true false (omega (arith, u .long)), eq-eqb (c .name) (c .name) refl)
+    go : (n : ℕ) → Dec (n ≡ c .name) → getD (set undone (c .name) true) n false ≡ declares cs n || eqb (c .name) n
+    go n (yes e) =
+        rw (e, getD-set-same undone (c .name) true false inside, eq-eqb (c .name) (c .name) refl)
         (sym (or-true (declares cs (c .name))))
-    go n inside (no ne) =
+    go n (no ne) =
         rw (getD-set-other undone (c .name) n true false ne, ne-eqb (c .name) n (λ e. ne (sym e)), or-false (declares cs n))
-        (u .names n inside ∙ and-true (declares cs n))
+        (u .names n ∙ and-true (declares cs n))
 
 -- the numbers of the constants from record n on: n is one of them, or not
 abbrev numbersFrom : List ℕ → ℕ → List ℕ
@@ -71,21 +57,23 @@ numbers-on book n less b e =
 pub record Declaring (book : List ℕ) (m n : ℕ) (places : List ℕ) (undone : List Bool) : Type 0 where
   pub few : m ≤ n
   pub within : n ≤ recordCount book
-  pub long : length places ≡ 1344
+  pub long : recordCount book ≤ length places
+  pub names : NamesBelow book (length undone)
   pub listed : take m places ++ numbersFrom book n ≡ numbersOf (isKind 24) (read book)
   pub undone-is : Undone (map (constantAt (read book)) (take m places)) [] undone
 
 -- at first none was
 pub declaring-start :
-    (book places : List ℕ) {undone : List Bool} → length places ≡ 1344 → undone ≡ replicate 4098 false →
-    Declaring book 0 0 places (set undone 4096 true)
+    {book places : List ℕ} {undone : List Bool} →
+    (recordCount book ≤ length places) × NamesBelow book (length undone) × Undone [] [] undone → Declaring book 0 0 places undone
 unfolding numbersOf read
-declaring-start book places long none = record {
+declaring-start {book} x = record {
   few = omega arith;
   within = omega arith;
-  long = long;
+  long = x .0;
+  names = x .1;
   listed = ap (λ k. keep (λ k. isKind 24 (recordOf (records book) k)) (from 0 k)) (omega arith);
-  undone-is = rw none undone-start;
+  undone-is = x .2;
 }
 
 module _
@@ -97,8 +85,8 @@ module _
     declaring-end over =
         let none-left : length (records book) - n ≡ 0 = omega (arith, readable .counted) in
         let all : take m places ≡ numbersOf (isKind 24) (read book) = sym (append-nil (take m places)) ∙ rw none-left at (d .listed) in
-        let inside : m ≤ length places = omega (arith, d .few, d .within, d .long, readable .few-records) in (
-          record { long = d .long; listed = all; count = sym (length-take-le m places inside) ∙ ap length all },
+        let inside : m ≤ length places = omega (arith, d .few, d .within, d .long) in (
+          record { long = inside; listed = all; count = sym (length-take-le m places inside) ∙ ap length all },
           rw all at (d .undone-is),
         )
 
@@ -115,19 +103,20 @@ module _
         is-constant : IsConstant book n
         is-constant = record { readable = readable; here = less; kind = ap (λ r. r .kind) is ∙ kind }
 
-        pub declares-name : r .a < 4096
-        declares-name = its-name is-constant at
+        pub declares-name : r .a < length undone
+        declares-name = subst (λ r. r .a < length undone) is (d .names n is-constant)
 
         pub declaring-constant : Declaring book (m + 1) (n + 1) (set places m n) (set undone (r .a) true)
         unfolding constantAt read
         declaring-constant =
-            let inside : m < length places = omega (arith, d .few, d .long, readable .few-records) in
+            let inside : m < length places = omega (arith, d .few, d .long) in
             let one : take (m + 1) (set places m n) ≡ take m places ++ (n ∷ []) = rw add-one (take-suc-set places m n inside) in
             let more = undone-more (d .undone-is) (constantAt (read book) n) (rw is declares-name) in
             record {
               few = omega (arith, d .few);
               within = omega arith;
-              long = length-set places m n ∙ d .long;
+              long = omega (arith, length-set places m n, d .long);
+              names = rw (length-set undone (r .a) true) (d .names);
               listed =
                   ap (λ l. l ++ numbersFrom book (n + 1)) one
                   ∙ append-assoc (take m places) (n ∷ []) (numbersFrom book (n + 1))
@@ -142,6 +131,7 @@ module _
         few = omega (arith, d .few);
         within = omega arith;
         long = d .long;
+        names = d .names;
         listed =
             ap (λ l. take m places ++ l) (sym (numbers-on book n here false (ap (isKind 24) is ∙ ne-eqb (r .kind) 24 kind)))
             ∙ d .listed;

@@ -5,6 +5,7 @@ pub mod Values
 pub mod Named
 pub mod Whole
 pub mod Nodes
+pub mod Marks
 pub mod Seen
 pub mod Subs
 pub mod Tests
@@ -14,7 +15,6 @@ pub mod Carry
 pub mod Final
 pub mod Changes
 pub mod Stored
-pub mod References
 pub mod Numbered
 pub mod Declaring
 pub mod Turns
@@ -25,4 +25,5 @@ pub mod Settles
 pub mod Earliest
 pub mod Arrays
 pub mod Settling
+pub mod Working
 pub mod Demand3

@@ -10,11 +10,11 @@ use borrow.Author.Tests.{eq-eqb, ne-eqb}
 use Rattle.record.specs.Layout.{recordAt}
 use Rattle.record.specs.declared.Record.{Record}
 use Rattle.book.specs.Lists.{All, keep}
-use Rattle.book.specs.Shape.{constant, table, Child, childIn, children, nameIn, namesBy, names, isOf}
+use Rattle.book.specs.Shape.{constant, table, Child, childIn, children, isOf}
 use Rattle.book.specs.Blocks.{records}
 use Rattle.book.specs.Faults.{recordOf}
 use Rattle.book.specs.Trees.{IsChild, IsRecord}
-use Rattle.book.proofs.Trees.{by-row, by-rows}
+use Rattle.book.proofs.Trees.{by-rows}
 use Rattle.constants.specs.Expr.{Expr, literal, reference, operation, literalOf, opOf, exprOf}
 use Rattle.constants.specs.Tables.{IsExpr, exprOfBook}
 use Rattle.constants.proofs.Whole.{one-more}
@@ -33,13 +33,7 @@ module _ (tree : ℕ → Expr) (r : Record) where
   unfolding exprOf
   operation-is f g = rw (ne-eqb (r .kind) 10 f, ne-eqb (r .kind) 11 g, exprOf)
 
--- what holds of the names of a reference and of the children of an operation. The rows: two of literals, references, operations
-name-of : (P : ℕ → Type 0) (r : Record) → isOf constant r ≡ true → All P (names r) → r .kind ≡ 11 → P (r .a)
-unfolding keep table nameIn names
-name-of P r is =
-    by-row (λ r o. All P (namesBy r o) → r .kind ≡ 11 → P (r .a)) constant r is
-    (λ l h p e. absurd (omega arith), (λ l h p e. absurd (omega arith), (λ l h p e. p .0, (λ l h p e. absurd (omega arith), tt))))
-
+-- what holds of the children of an operation. The rows: two of literals, references, operations
 sides-of :
     (P : Child → Type 0) (r : Record) → isOf constant r ≡ true → All P (children r) → ¬ (r .kind ≡ 10) → ¬ (r .kind ≡ 11) →
     P (record { group = constant; number = r .a }) × P (record { group = constant; number = r .b })
@@ -86,12 +80,6 @@ module _ {book : List ℕ} {n : ℕ} (x : IsExpr book n) (r : Record) (at : r �
       ¬ (r .kind ≡ 10) → ¬ (r .kind ≡ 11) →
       exprOfBook book n ≡ operation (opOf (r .sub)) (exprOfBook book (r .a)) (exprOfBook book (r .b))
   operation-here f g = here ∙ operation-is _ r f g
-
-  -- the name of a reference
-  pub name-here : r .kind ≡ 11 → r .a < 4096
-  name-here e =
-      subst (λ q. q .a < 4096) is
-      (name-of (λ m. m < 4096) (recordOf (records book) n) (x .of-group) (rules .named) (ap (λ q. q .kind) is ∙ e))
 
   -- children are records of expressions too
   child-is : {m : ℕ} → IsChild (records book) n (record { group = constant; number = m }) → IsExpr book m

@@ -11,7 +11,7 @@ use Rattle.record.specs.declared.Record.{Record}
 use Rattle.record.specs.Layout.{recordAt}
 use Rattle.book.specs.Lists.{keep, from}
 use Rattle.book.specs.Shape.{wellShaped}
-use Rattle.book.specs.Blocks.{records}
+use Rattle.book.specs.Blocks.{recordCount, records}
 use Rattle.book.specs.Faults.{recordOf, isKind}
 use Rattle.book.specs.Outline.{Book, read, _!_, numbersOf}
 use Rattle.book.specs.Trees.{WellFormed, Readable}
@@ -20,7 +20,7 @@ use Rattle.book.proofs.Members.{at-mem-take}
 use Rattle.book.proofs.Declares.{shaped-name}
 use Rattle.constants.specs.Order.{Constant}
 use Rattle.constants.specs.OfBook.{constantAt, constants}
-use Rattle.constants.specs.Tables.{IsExpr, IsConstant, declared, exprOfBook, constantIn, Places}
+use Rattle.constants.specs.Tables.{IsExpr, IsConstant, NamesBelow, declared, exprOfBook, constantIn, Places}
 use Rattle.constants.proofs.Declared.{IsAt, declared-at, expression-is-child}
 use Rattle.constants.proofs.Distinct.{set-of-constants, distinct}
 
@@ -90,12 +90,15 @@ module _ (book : Book) where
       let down : ¬ (j < i) = λ first. omega (arith, ascend j i first (omega (arith, as-many))) in
       omega arith
 
--- a readable book has at most 1,344
-pub few-constants : {book : List ℕ} → Readable book → length (declared book) ≤ 1344
+-- a readable book has at most as many as records, and at most 1,344
+pub fewer-constants : {book : List ℕ} → Readable book → length (declared book) ≤ recordCount book
 unfolding numbersOf read
-few-constants {book} r =
+fewer-constants {book} r =
     let all = keep-length (λ n. isKind 24 (recordOf (records book) n)) (from 0 (length (records book))) in
-    omega (arith, as-many (read book), all, from-length 0 (length (records book)), r .counted, r .few-records)
+    omega (arith, as-many (read book), all, from-length 0 (length (records book)), r .counted)
+
+pub few-constants : {book : List ℕ} → Readable book → length (declared book) ≤ 1344
+few-constants r = omega (arith, fewer-constants r, r .few-records)
 
 -- `places` has their numbers
 module _ {book : Book} {m : ℕ} {places : List ℕ} (at : Places book m places) where
@@ -130,6 +133,9 @@ module _ {book : List ℕ} {p : ℕ} (x : IsConstant book p) {r : Record} (at : 
       let shaped = subst (λ (r : Record). wellShaped r ≡ true) is (x .readable .well-formed p here .shaped) in
       shaped-name r shaped (omega (arith, set-of-constants r kind))
 
+  pub its-name-below : {most : ℕ} → NamesBelow book most → r .a < most
+  its-name-below {most} below = subst (λ (r : Record). r .a < most) is (below p x)
+
   -- and an expression
   pub its-expr : IsExpr book (r .c)
   its-expr =
@@ -141,16 +147,20 @@ module _ {book : List ℕ} {p : ℕ} (x : IsConstant book p) {r : Record} (at : 
   unfolding constantAt read
   constant-is = rw is
 
--- the name of constant i is below 4,096
-pub name-below : {book : List ℕ} (i : ℕ) → Readable book → i < length (declared book) → constantIn (declared book) i .name < 4096
-name-below i readable inside =
+-- the names of constants are below 4,096
+pub names-below : {book : List ℕ} → NamesBelow book 4096
+names-below n x = its-name x (x .readable .in-range n (x .here) .there)
+
+-- constant i has one of them
+pub name-below : {book : List ℕ} {most : ℕ} (i : ℕ) → NamesBelow book most → Readable book → i < length (declared book) → constantIn (declared book) i .name < most
+unfolding constantAt read
+name-below i below readable inside =
     let (x, is) = is-constant readable inside refl in
-    rw (is ∙ constant-is x refl) (its-name x refl)
+    rw is (below _ x)
 
 -- r is the record of constant i, which is known by its place
 pub record Stands (book : List ℕ) (i : ℕ) (r : Record) : Type 0 where
   pub inside : i < length (declared book)
-  pub few : i < 1344
   pub is-expr : IsExpr book (r .c)
   pub expr-is : constantIn (declared book) i .expr ≡ exprOfBook book (r .c)
 
@@ -161,7 +171,6 @@ stands readable inside e at =
     let (x, is) = is-constant readable inside e in
     record {
       inside = inside;
-      few = omega (arith, few-constants readable);
       is-expr = its-expr x at;
       expr-is = ap (λ (c : Constant). c .expr) (is ∙ constant-is x at);
     }

@@ -21,32 +21,28 @@ module _ {stamp : ℕ} {ns seen : List ℕ} (s : Seen stamp ns seen) where
   looked-none = record { again-is = refl; seen-is = s }
 
   -- one name is: it comes again if it carries the stamp, which it then does
-  pub looked-one : (n : ℕ) → n < 4096 → Looked stamp (n ∷ []) ns (eqb (getD seen n 0) stamp) (set seen n stamp)
+  pub looked-one : (n : ℕ) → n < length seen → Looked stamp (n ∷ []) ns (eqb (getD seen n 0) stamp) (set seen n stamp)
   unfolding repeats any
   looked-one n less =
       record {
         again-is = rw (s .marks n less) (again (has n ns));
         seen-is =
             record {
-              long = length-set seen n stamp ∙ s .long;
               marks = λ m below. marks m below (ℕ-discrete n m);
               latest = λ m. latest m (ℕ-discrete n m);
             };
       }
     where
-      inside : n < length seen
-      inside = omega (arith, s .long)
-
       again : (b : Bool) → elim b [ true ↦ true | false ↦ repeats ns ] ≡ b || repeats ns
       again true = refl
       again false = refl
 
-      marks : (m : ℕ) → m < 4096 → Dec (n ≡ m) → eqb (getD (set seen n stamp) m 0) stamp ≡ has m (n ∷ ns)
-      marks m below (yes e) = rw (← e, getD-set-same seen n stamp 0 inside, eq-eqb stamp stamp refl, eq-eqb n n refl, any)
-      marks m below (no ne) = rw (getD-set-other seen n m stamp 0 (λ e. ne (sym e)), ne-eqb n m ne, any) (s .marks m below)
+      marks : (m : ℕ) → m < length (set seen n stamp) → Dec (n ≡ m) → eqb (getD (set seen n stamp) m 0) stamp ≡ has m (n ∷ ns)
+      marks m below (yes e) = rw (← e, getD-set-same seen n stamp 0 less, eq-eqb stamp stamp refl, eq-eqb n n refl, any)
+      marks m below (no ne) = rw (getD-set-other seen n m stamp 0 (λ e. ne (sym e)), ne-eqb n m ne, any) (s .marks m (omega (arith, length-set seen n stamp)))
 
       latest : (m : ℕ) → Dec (n ≡ m) → getD (set seen n stamp) m 0 ≤ stamp
-      latest m (yes e) = rw (← e, getD-set-same seen n stamp 0 inside) (omega arith)
+      latest m (yes e) = rw (← e, getD-set-same seen n stamp 0 less) (omega arith)
       latest m (no ne) = rw (getD-set-other seen n m stamp 0 (λ e. ne (sym e))) (s .latest m)
 
 -- two parts of what is kept, with what stands behind

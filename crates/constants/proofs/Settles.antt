@@ -13,7 +13,7 @@ use Rattle.book.specs.Outline.{read}
 use Rattle.constants.specs.Eval.{evalConstExpr}
 use Rattle.constants.specs.OfBook.{constantAt}
 use Rattle.constants.specs.Values.{IsI64}
-use Rattle.constants.specs.Tables.{tableOf, IsConstant, exprOfBook}
+use Rattle.constants.specs.Tables.{tableOf, IsConstant, exprOfBook, never}
 use Rattle.constants.specs.Evaluated.{hasValue, valueOr0, knownThen, worthThen, Settles}
 use Rattle.constants.proofs.Numbered.{constant-is}
 
@@ -30,7 +30,7 @@ pub settles :
     {waits worth worth′ order values values′ : List ℕ} →
     IsConstant book p → r ≡ recordAt book p → o ≡ evalConstExpr (tableOf known worth) (exprOfBook book (r .c)) →
     PutDown (r .a) k o known known′ worth worth′ stored stored′ values values′ →
-    Settles (constantAt (read book) p) i k undone (set undone (r .a) false) waits (set waits i 4096) known known′ worth worth′ order
+    Settles (constantAt (read book) p) i k undone (set undone (r .a) false) waits (set waits i never) known known′ worth worth′ order
     (set order k p) stored stored′ values values′
 settles x at value put =
     let down = rw value at put in

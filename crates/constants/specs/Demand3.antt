@@ -11,6 +11,7 @@ use lib.IntN.{ℤ}
 use lib.ListN.{getD}
 use Rattle.record.specs.Bytes.{AreBytes}
 use Rattle.arith.specs.Word.{signed}
+use Rattle.book.specs.Blocks.{recordCount}
 use Rattle.book.specs.Outline.{read, _!_}
 use Rattle.book.specs.Refusal.{firstRefusal}
 use Rattle.constants.specs.Order.{Constant, each, declares}
@@ -56,7 +57,7 @@ pub record IsOf (book : List ℕ) (x : Evaluation) : Type 0 where
   pub order : List ℕ
   pub stored : List Bool
   pub values : List ℕ
-  pub long : Long known worth order stored values
+  pub long : Long book (recordCount book) known worth order stored values
   pub none-before : (n : ℕ) → tableOf known worth n ≡ none
   pub promise :
       Evaluated (outcomeOver book known worth) (x .count) known known′ worth worth′ order (x .order) stored (x .stored) values (x .values)

@@ -1,7 +1,7 @@
 -- The promise of `evaluate_constants`: what it answers and leaves, for a book and a table of values beforehand. Words in quotation marks are
 -- document 01's.
 -- Assumes nothing.
-use Prim.Native.Nat.{ℕ}
+use Prim.Native.Nat.{ℕ, _≤_}
 use mathlib.Core.Bool.{Bool, true, false}
 use mathlib.Core.List.{List, [], _∷_, _++_, map}
 use mathlib.Core.Option.{Option, some, none}
@@ -14,7 +14,7 @@ use Rattle.constants.specs.Eval.{evalConstExpr}
 use Rattle.constants.specs.Order.{Constant, Settled, each, outcome}
 use Rattle.constants.specs.OfBook.{constants}
 use Rattle.constants.specs.Values.{IsI64}
-use Rattle.constants.specs.Tables.{tableOf}
+use Rattle.constants.specs.Tables.{tableOf, NamesBelow, never}
 
 -- xs at the front of a list, the rest as it is
 unfoldable pub filled : {A : Type 0} → List A → List A → List A
@@ -46,7 +46,7 @@ pub record Settles
     (c : Constant) (i k : ℕ) (undone undone′ : List Bool) (waits waits′ : List ℕ) (known known′ : List Bool) (worth worth′ : List ℕ)
     (order order′ : List ℕ) (stored stored′ : List Bool) (values values′ : List ℕ) : Type 0 where
   pub undone-is : undone′ ≡ set undone (c .name) false
-  pub waits-are : waits′ ≡ set waits i 4096
+  pub waits-are : waits′ ≡ set waits i never
   pub known-is : known′ ≡ knownThen (c .name) (evalConstExpr (tableOf known worth) (c .expr)) known
   pub worth-is : worth′ ≡ worthThen (c .name) (evalConstExpr (tableOf known worth) (c .expr)) worth
   pub order-is : order′ ≡ set order k (c .place)
@@ -67,13 +67,13 @@ worthBehind (x ∷ xs) worth = worthBehind xs (worthThen (x .constant .name) (x 
 unfoldable pub outcomeOver : List ℕ → List Bool → List ℕ → List Settled
 outcomeOver book known worth = outcome each (tableOf known worth) (constants (read book))
 
--- the arrays are as long as their types say: by name, and by number
-pub record Long (known : List Bool) (worth order : List ℕ) (stored : List Bool) (values : List ℕ) : Type 0 where
-  pub known-is : length known ≡ 4096
-  pub worth-is : length worth ≡ 4096
-  pub order-is : length order ≡ 1344
-  pub stored-is : length stored ≡ 1344
-  pub values-are : length values ≡ 1344
+-- the arrays have room: by name for the names of a book's constants, and by number for m of them
+pub record Long (book : List ℕ) (m : ℕ) (known : List Bool) (worth order : List ℕ) (stored : List Bool) (values : List ℕ) : Type 0 where
+  pub names : NamesBelow book (length known)
+  pub worth-is : length worth ≡ length known
+  pub order-is : m ≤ length order
+  pub stored-is : m ≤ length stored
+  pub values-are : m ≤ length values
 
 -- what is left: the reached constants in their order, each by its record number, whether it is stored, and its value or 0; behind them the arrays
 -- are as lent. The values stored stand under their names.

@@ -37,6 +37,10 @@ pub record IsConstant (book : List ℕ) (n : ℕ) : Type 0 where
   pub here : n < recordCount book
   pub kind : recordOf (records book) n .kind ≡ 24
 
+-- the names of a book's constants are below a number
+abbrev pub NamesBelow : List ℕ → ℕ → Type 0
+NamesBelow book most = (n : ℕ) → IsConstant book n → recordOf (records book) n .a < most
+
 -- the constants that a book declares
 abbrev pub declared : List ℕ → List Constant
 declared book = constants (read book)
@@ -54,10 +58,9 @@ nameOf (Is n) = some n
 abbrev pub marked : List Bool → Expr → List ℕ
 marked marks e = keep (λ n. getD marks n false) (refs e)
 
--- seen: the names that are among `ns` carry the stamp, and no name a later one
+-- seen: the names that are among `ns` carry the stamp, of those that have a place, and no name a later one
 pub record Seen (stamp : ℕ) (ns : List ℕ) (seen : List ℕ) : Type 0 where
-  pub long : length seen ≡ 4096
-  pub marks : (n : ℕ) → n < 4096 → eqb (getD seen n 0) stamp ≡ has n ns
+  pub marks : (n : ℕ) → n < length seen → eqb (getD seen n 0) stamp ≡ has n ns
   pub latest : (n : ℕ) → getD seen n 0 ≤ stamp
 
 -- names `new` are looked at, behind those in `ns`: whether one comes again, and what is seen then
@@ -66,19 +69,18 @@ pub record Looked (stamp : ℕ) (new ns : List ℕ) (again : Bool) (seen : List 
   pub seen-is : Seen stamp (new ++ ns) seen
 
 -- an expression names n
-pub record Names (e : Expr) (n : ℕ) : Type 0 where
-  pub low : n < 4096
-  pub among : has n (refs e) ≡ true
+abbrev pub Names : Expr → ℕ → Type 0
+Names e n = has n (refs e) ≡ true
 
 -- hints: from place k up to `end` a list has names that an expression names
 pub record Hints (e : Expr) (named : List ℕ) (k end : ℕ) : Type 0 where
-  pub within : end ≤ 1344
+  pub within : end ≤ length named
   pub names : (j : ℕ) → k ≤ j → j < end → Names e (getD named j 0)
 
 -- names that an expression names are put into a list from place k up to `end`; the rest of it is as it was
 pub record Listed (e : Expr) (k end : ℕ) (named named′ : List ℕ) : Type 0 where
   pub onward : k ≤ end
-  pub long : length named′ ≡ 1344
+  pub long : length named′ ≡ length named
   pub before : (j : ℕ) → j < k → getD named′ j 0 ≡ getD named j 0
   pub behind : (j : ℕ) → end ≤ j → getD named′ j 0 ≡ getD named j 0
   pub hints : Hints e named′ k end
@@ -94,7 +96,7 @@ pub record UndoneName (undone : List Bool) (e : Expr) (o : Option ℕ) : Type 0 
   pub nothing : o ≡ none → none ≡ find (λ n. getD undone n false) (refs e)
   pub is : (n : ℕ) → o ≡ some n → Names e n × (getD undone n false ≡ true)
 
--- entry i of a list goes on, to a place that is no earlier one
+-- entry i of a list goes on to a later place
 pub record GoesOn (i : ℕ) (l l′ : List ℕ) : Type 0 where
   pub to : ℕ
   pub onward : getD l i 0 ≤ to
@@ -102,40 +104,50 @@ pub record GoesOn (i : ℕ) (l l′ : List ℕ) : Type 0 where
 
 -- places: the record numbers of the constants, in book order
 pub record Places (book : Book) (m : ℕ) (places : List ℕ) : Type 0 where
-  pub long : length places ≡ 1344
+  pub long : m ≤ length places
   pub listed : take m places ≡ numbersOf (isKind 24) book
   pub count : m ≡ length (numbersOf (isKind 24) book)
 
--- undone: the names of constants that are not done; place 4,096 stands for a name that never is, and 4,097 for one that is from the start
+-- undone: the names of constants that are not done; a name that has no place is none of them
 pub record Undone (cs : List Constant) (done : List ℕ) (undone : List Bool) : Type 0 where
-  pub long : length undone ≡ 4098
-  pub names : (n : ℕ) → n < 4096 → getD undone n false ≡ declares cs n && not (has n done)
-  pub never : getD undone 4096 false ≡ true
-  pub at-once : getD undone 4097 false ≡ false
+  pub long : length undone ≤ 4096
+  pub names : (n : ℕ) → getD undone n false ≡ declares cs n && not (has n done)
 
--- a name that a constant waits for: it is not ready while that name is undone
+-- two numbers above all names: what never comes, and what is there from the start
+abbrev pub never : ℕ
+never = 65535
+
+abbrev pub atOnce : ℕ
+atOnce = 65534
+
+-- whether what a constant waits for is yet to come
+unfoldable pub toCome : List Bool → ℕ → Bool
+toCome undone w = eqb w never || getD undone w false
+
+-- what a constant waits for: it is not ready while that is yet to come
 pub data Waiting (cs : List Constant) (done : List ℕ) (c : Constant) : ℕ → Type 0 where
   -- "its expression names no declared constant twice" does not hold
-  not-admitted : admits each cs c ≡ false → Waiting cs done c 4096
+  not-admitted : admits each cs c ≡ false → Waiting cs done c never
   -- it is done
-  over : has (c .name) done ≡ true → Waiting cs done c 4096
+  over : has (c .name) done ≡ true → Waiting cs done c never
   -- it is not, and was not looked at
-  new : has (c .name) done ≡ false → admits each cs c ≡ true → Waiting cs done c 4097
+  new : has (c .name) done ≡ false → admits each cs c ≡ true → Waiting cs done c atOnce
   -- it is not, and names n
-  for : {n : ℕ} → n < 4096 → has (c .name) done ≡ false → admits each cs c ≡ true → has n (refs (c .expr)) ≡ true → Waiting cs done c n
+  for : {n : ℕ} → n < 4096 → has (c .name) done ≡ false → admits each cs c ≡ true → Names (c .expr) n → Waiting cs done c n
 
 -- constant i of a list
 unfoldable pub constantIn : List Constant → ℕ → Constant
 constantIn cs i = getD cs i (record { place = 0; name = 0; expr = exprAt 0 [] 0 })
 
--- waits: a name for each constant
+-- waits: what each constant waits for
 pub record Waits (cs : List Constant) (done : List ℕ) (waits : List ℕ) : Type 0 where
-  pub long : length waits ≡ 1344
+  pub long : length cs ≤ length waits
   pub each-waits : (i : ℕ) → i < length cs → Waiting cs done (constantIn cs i) (getD waits i 0)
 
 -- hints of each constant
 pub record Hinted (cs : List Constant) (named hints ends : List ℕ) : Type 0 where
-  pub long : length hints ≡ 1344
+  pub hints-long : length cs ≤ length hints
+  pub ends-long : length cs ≤ length ends
   pub each-hinted : (i : ℕ) → i < length cs → Hints (constantIn cs i .expr) named (getD hints i 0) (getD ends i 0)
 
 -- some names are done
@@ -160,3 +172,15 @@ pub record IsFirst (test : Constant → Bool) (cs : List Constant) (low i : ℕ)
 pub record Found (cs : List Constant) (done : List ℕ) (low i : ℕ) (waits : List ℕ) : Type 0 where
   pub first : IsFirst (ready each cs done) cs low i
   pub waits-are : Waits cs done waits
+
+-- working arrays: nothing is marked or stamped yet, and there is room for the names of a book's constants and for every record
+pub record Works (book : List ℕ) (undone : List Bool) (seen places waits named hints ends : List ℕ) : Type 0 where
+  pub names : NamesBelow book (length undone)
+  pub undone-is : Undone [] [] undone
+  pub seen-long : length seen ≡ length undone
+  pub unstamped : (n : ℕ) → getD seen n 0 ≡ 0
+  pub places-long : recordCount book ≤ length places
+  pub waits-long : recordCount book ≤ length waits
+  pub named-few : length named < 65536
+  pub hints-long : recordCount book ≤ length hints
+  pub ends-long : recordCount book ≤ length ends

@@ -11,9 +11,6 @@ ghost use Rattle.book.specs.Lists.{find, keep};
 ghost use Rattle.constants.specs.Expr.{reference, literalOf, opOf, refs};
 ghost use Rattle.constants.specs.Eval.{literalValue, apply, applyTo, evalConstExpr};
 ghost use Rattle.constants.specs.Tables.{tableOf, IsExpr, exprOfBook, nameOf, marked, Seen, Looked, Listed};
-use crate::NAMES;
-use crate::RECORDS;
-use crate::ready::SLOTS;
 use arith::Checked;
 
 // A name, if there is one.
@@ -34,14 +31,28 @@ fn literal_value(sub: u8, v: u64) -> Checked
     }
 }
 
-// The value that is stored under a name.
-fn stored_value(name: u16, known: &[bool; NAMES], worth: &[u64; NAMES]) -> Checked
-    requires { ⌜ name < 4096 ⌝ }
-    ensures { λ r. ⌜ answer r ≡ tableOf (now (known .entry)) (now (worth .entry)) name ⌝ }
+// Whether a name is marked. One that has no place is not.
+pub(crate) fn is_marked(name: u16, marks: &[bool]) -> bool
+    ensures { λ r. ⌜ r ≡ getD (now (marks .entry)) name false ⌝ }
 {
     let n = name as usize;
-    if known[n] {
-        Checked::Value(worth[n])
+    if n < marks.len() { marks[n] } else { false }
+}
+
+// The word that stands under a name, 0 where it has no place.
+fn word_under(name: u16, words: &[u64]) -> u64
+    ensures { λ r. ⌜ r ≡ getD (now (words .entry)) name 0 ⌝ }
+{
+    let n = name as usize;
+    if n < words.len() { words[n] } else { 0 }
+}
+
+// The value that is stored under a name.
+fn stored_value(name: u16, known: &[bool], worth: &[u64]) -> Checked
+    ensures { λ r. ⌜ answer r ≡ tableOf (now (known .entry)) (now (worth .entry)) name ⌝ }
+{
+    if is_marked(name, known) {
+        Checked::Value(word_under(name, worth))
     } else {
         Checked::None
     }
@@ -74,12 +85,7 @@ fn apply_to(sub: u8, left: Checked, right: Checked) -> Checked
 }
 
 // The value of the expression at record n, over the values of names.
-pub(crate) fn eval_const_expr(
-    book: &[u8],
-    n: u16,
-    known: &[bool; NAMES],
-    worth: &[u64; NAMES],
-) -> Checked
+pub(crate) fn eval_const_expr(book: &[u8], n: u16, known: &[bool], worth: &[u64]) -> Checked
     requires { ⌜ IsExpr (now book) n ⌝ }
     ensures { λ r. ⌜ answer r ≡ evalConstExpr (tableOf (now (known .entry)) (now (worth .entry))) (exprOfBook (now (book .entry)) n) ⌝ }
 {
@@ -97,12 +103,10 @@ pub(crate) fn eval_const_expr(
 }
 
 // A name, if it is undone.
-fn if_undone(name: u16, undone: &[bool; SLOTS]) -> Name
-    requires { ⌜ name < 4096 ⌝ }
+fn if_undone(name: u16, undone: &[bool]) -> Name
     ensures { λ r. ⌜ nameOf r ≡ find (λ n. getD (now (undone .entry)) n false) (name ∷ []) ⌝ }
 {
-    let n = name as usize;
-    if undone[n] {
+    if is_marked(name, undone) {
         Name::Is(name)
     } else {
         Name::Nothing
@@ -110,7 +114,7 @@ fn if_undone(name: u16, undone: &[bool; SLOTS]) -> Name
 }
 
 // The first undone name that the expression at record n names.
-pub(crate) fn first_undone(book: &[u8], n: u16, undone: &[bool; SLOTS]) -> Name
+pub(crate) fn first_undone(book: &[u8], n: u16, undone: &[bool]) -> Name
     requires { ⌜ IsExpr (now book) n ⌝ }
     ensures { λ r. ⌜ nameOf r ≡ find (λ n. getD (now (undone .entry)) n false) (refs (exprOfBook (now (book .entry)) n)) ⌝ }
 {
@@ -130,15 +134,15 @@ pub(crate) fn first_undone(book: &[u8], n: u16, undone: &[bool; SLOTS]) -> Name
 }
 
 // Whether an undone name was seen under this stamp. It is then.
-fn see(name: u16, stamp: u16, undone: &[bool; SLOTS], seen: &mut [u16; NAMES]) -> bool
-    requires { ⌜ name < 4096 ⌝ }
+fn see(name: u16, stamp: u16, undone: &[bool], seen: &mut [u16]) -> bool
+    requires { ⌜ length (now seen) ≡ length (now undone) ⌝ }
     ensures { λ r. ⌜ ((ns : List ℕ) → Seen stamp ns (now (seen .entry)) →
         Looked stamp (keep (λ n. getD (now (undone .entry)) n false) (name ∷ [])) ns r (now (seen .exit))) ⌝ }
 {
-    let n = name as usize;
-    if !undone[n] {
+    if !is_marked(name, undone) {
         return false;
     }
+    let n = name as usize;
     let again = seen[n] == stamp;
     seen[n] = stamp;
     again
@@ -150,10 +154,10 @@ pub(crate) fn names_twice(
     book: &[u8],
     n: u16,
     stamp: u16,
-    undone: &[bool; SLOTS],
-    seen: &mut [u16; NAMES],
+    undone: &[bool],
+    seen: &mut [u16],
 ) -> bool
-    requires { ⌜ IsExpr (now book) n ⌝ }
+    requires { ⌜ IsExpr (now book) n × (length (now seen) ≡ length (now undone)) ⌝ }
     ensures { λ r. ⌜ ((ns : List ℕ) → Seen stamp ns (now (seen .entry)) →
         Looked stamp (marked (now (undone .entry)) (exprOfBook (now (book .entry)) n)) ns r (now (seen .exit))) ⌝ }
 {
@@ -171,12 +175,12 @@ pub(crate) fn names_twice(
 }
 
 // Puts a name at a place of a list, if that has room for it. The place behind it.
-fn put_name(name: u16, from: u16, named: &mut [u16; RECORDS]) -> u16
-    requires { ⌜ (name < 4096) × (from ≤ 1344) × (length (now named) ≡ 1344) ⌝ }
+fn put_name(name: u16, from: u16, named: &mut [u16]) -> u16
+    requires { ⌜ (from ≤ length (now named)) × (length (now named) < 65536) ⌝ }
     ensures { λ r. ⌜ Listed (reference name) from r (now (named .entry)) (now (named .exit)) ⌝ }
 {
     let at = from as usize;
-    if at < RECORDS {
+    if at < named.len() {
         named[at] = name;
         return from + 1;
     }
@@ -184,8 +188,8 @@ fn put_name(name: u16, from: u16, named: &mut [u16; RECORDS]) -> u16
 }
 
 // Lists what the expression at record n names, from a place of a list on, as far as there is room. The place behind it.
-pub(crate) fn list_names(book: &[u8], n: u16, from: u16, named: &mut [u16; RECORDS]) -> u16
-    requires { ⌜ IsExpr (now book) n × (from ≤ 1344) × (length (now named) ≡ 1344) ⌝ }
+pub(crate) fn list_names(book: &[u8], n: u16, from: u16, named: &mut [u16]) -> u16
+    requires { ⌜ IsExpr (now book) n × (from ≤ length (now named)) × (length (now named) < 65536) ⌝ }
     ensures { λ r. ⌜ Listed (exprOfBook (now (book .entry)) n) from r (now (named .entry)) (now (named .exit)) ⌝ }
 {
     let r = record::record_at(book, n);

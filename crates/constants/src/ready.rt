@@ -2,44 +2,38 @@
 
 ghost use mathlib.Core.Path.{_≡_};
 ghost use mathlib.Core.List.{List, []};
-ghost use mathlib.Core.Bool.{false};
-ghost use Prim.Native.Nat.{ℕ, _≤_, _<_};
-ghost use lib.ListN.{length, getD, set, replicate};
+ghost use Prim.Native.Nat.{ℕ, _+_, _≤_, _<_};
+ghost use lib.ListN.{length, getD, set};
 ghost use Rattle.arith.specs.Checked.{answer};
 ghost use Rattle.book.specs.Blocks.{recordCount};
 ghost use Rattle.book.specs.Outline.{read};
 ghost use Rattle.book.specs.Trees.{Readable};
 ghost use Rattle.constants.specs.OfBook.{constantAt};
 ghost use Rattle.constants.specs.Values.{IsI64};
-ghost use Rattle.constants.specs.Tables.{IsExpr, exprOfBook, nameOf, declared, IsConstant, constantIn, Places, Undone, Waits, Standing, Told, Found};
+ghost use Rattle.constants.specs.Tables.{IsExpr, exprOfBook, nameOf, declared, IsConstant, NamesBelow, constantIn, Places, Undone, toCome, Waits, Standing, Told, Found};
 ghost use Rattle.constants.specs.Tables.{Hints, NextHint, UndoneName, GoesOn, Hinted};
 ghost use Rattle.constants.specs.Evaluated.{hasValue, valueOr0, knownThen, worthThen, Long, Settles, outcomeOver, Evaluated};
-use crate::NAMES;
-use crate::RECORDS;
 use crate::expr;
 use crate::expr::Name;
 use arith::Checked;
 
-// Places for names that are undone, and one each for a name that always is and for one that never is.
-pub const SLOTS: usize = 4098;
+// What a constant waits for is a name, or one of two numbers above all names: what never comes, and what is there from the
+// start.
+const NEVER: u16 = 65535;
 
-const NEVER: u16 = 4096;
-
-const AT_ONCE: u16 = 4097;
+const AT_ONCE: u16 = 65534;
 
 // Lists the constants of a book by their record numbers, and opens their names. How many there are.
 pub(crate) fn declare_constants(
     book: &[u8],
     count: u16,
-    places: &mut [u16; RECORDS],
-    undone: &mut [bool; SLOTS],
+    places: &mut [u16],
+    undone: &mut [bool],
 ) -> u16
     requires { ⌜ Readable (now book) × (count ≡ recordCount (now book)) ⌝ }
-    requires { ⌜ (length (now places) ≡ 1344) × (now undone ≡ replicate 4098 false) ⌝ }
+    requires { ⌜ (recordCount (now book) ≤ length (now places)) × NamesBelow (now book) (length (now undone)) × Undone [] [] (now undone) ⌝ }
     ensures { λ r. ⌜ Places (read (now (book .entry))) r (now (places .exit)) × Undone (declared (now (book .entry))) [] (now (undone .exit)) ⌝ }
 {
-    let never = NEVER as usize;
-    undone[never] = true;
     let mut m: u16 = 0;
     let mut n: u16 = 0;
     while n < count {
@@ -61,20 +55,20 @@ pub(crate) fn declare_constants(
 pub(crate) fn admit_constants(
     book: &[u8],
     m: u16,
-    places: &[u16; RECORDS],
-    undone: &[bool; SLOTS],
-    waits: &mut [u16; RECORDS],
+    places: &[u16],
+    undone: &[bool],
+    seen: &mut [u16],
+    waits: &mut [u16],
 )
-    requires { ⌜ Readable (now book) × Places (read (now book)) m (now places) ⌝ }
-    requires { ⌜ Undone (declared (now book)) [] (now undone) × (length (now waits) ≡ 1344) ⌝ }
+    requires { ⌜ Readable (now book) × Places (read (now book)) m (now places) × Undone (declared (now book)) [] (now undone) ⌝ }
+    requires { ⌜ (length (now seen) ≡ length (now undone)) × ((n : ℕ) → getD (now seen) n 0 ≡ 0) × (m ≤ length (now waits)) ⌝ }
     ensures { λ _. ⌜ Waits (declared (now (book .entry))) [] (now (waits .exit)) ⌝ }
 {
-    let mut seen = [0u16; NAMES];
     let mut i: u16 = 0;
     while i < m {
         let at = i as usize;
         let r = record::record_at(book, places[at]);
-        let twice = expr::names_twice(book, r.c, i + 1, undone, &mut seen);
+        let twice = expr::names_twice(book, r.c, i + 1, undone, seen);
         if twice {
             waits[at] = NEVER;
         } else {
@@ -89,13 +83,13 @@ pub(crate) fn admit_constants(
 pub(crate) fn hint_constants(
     book: &[u8],
     m: u16,
-    places: &[u16; RECORDS],
-    named: &mut [u16; RECORDS],
-    hints: &mut [u16; RECORDS],
-    ends: &mut [u16; RECORDS],
+    places: &[u16],
+    named: &mut [u16],
+    hints: &mut [u16],
+    ends: &mut [u16],
 )
     requires { ⌜ Readable (now book) × Places (read (now book)) m (now places) ⌝ }
-    requires { ⌜ (length (now named) ≡ 1344) × (length (now hints) ≡ 1344) × (length (now ends) ≡ 1344) ⌝ }
+    requires { ⌜ (length (now named) < 65536) × (m ≤ length (now hints)) × (m ≤ length (now ends)) ⌝ }
     ensures { λ _. ⌜ Hinted (declared (now (book .entry))) (now (named .exit)) (now (hints .exit)) (now (ends .exit)) ⌝ }
 {
     let mut k: u16 = 0;
@@ -111,15 +105,14 @@ pub(crate) fn hint_constants(
 }
 
 // The place of the first hint that is undone, from k on and before `end`; the end or a later place where none is.
-fn next_hint(k: u16, end: u16, undone: &[bool; SLOTS], named: &[u16; RECORDS]) -> u16
-    requires { ⌜ (end ≤ 1344) × ((j : ℕ) → k ≤ j → j < end → getD (now named) j 0 < 4096) ⌝ }
+fn next_hint(k: u16, end: u16, undone: &[bool], named: &[u16]) -> u16
+    requires { ⌜ end ≤ length (now named) ⌝ }
     ensures { λ r. ⌜ NextHint (now (undone .entry)) (now (named .entry)) k end r ⌝ }
 {
     let mut j = k;
     while j < end {
         let at = j as usize;
-        let name = named[at] as usize;
-        if undone[name] {
+        if expr::is_marked(named[at], undone) {
             return j;
         }
         j += 1;
@@ -133,12 +126,13 @@ fn undone_name(
     book: &[u8],
     i: u16,
     n: u16,
-    undone: &[bool; SLOTS],
-    named: &[u16; RECORDS],
-    ends: &[u16; RECORDS],
-    hints: &mut [u16; RECORDS],
+    undone: &[bool],
+    named: &[u16],
+    ends: &[u16],
+    hints: &mut [u16],
 ) -> Name
-    requires { ⌜ IsExpr (now book) n × (i < 1344) × Hints (exprOfBook (now book) n) (now named) (getD (now hints) i 0) (getD (now ends) i 0) ⌝ }
+    requires { ⌜ (i < length (now hints)) × (i < length (now ends)) ⌝ }
+    requires { ⌜ IsExpr (now book) n × Hints (exprOfBook (now book) n) (now named) (getD (now hints) i 0) (getD (now ends) i 0) ⌝ }
     ensures { λ r. ⌜ UndoneName (now (undone .entry)) (exprOfBook (now (book .entry)) n) (nameOf r) ⌝ }
     ensures { λ _. ⌜ GoesOn i (now (hints .entry)) (now (hints .exit)) ⌝ }
 {
@@ -153,16 +147,26 @@ fn undone_name(
     expr::first_undone(book, n, undone)
 }
 
+// Whether what a constant waits for is yet to come.
+fn is_to_come(w: u16, undone: &[bool]) -> bool
+    ensures { λ r. ⌜ r ≡ toCome (now (undone .entry)) w ⌝ }
+{
+    if w == NEVER {
+        return true;
+    }
+    expr::is_marked(w, undone)
+}
+
 // Whether constant i, at record p, is ready. If not, it waits for an undone name.
 fn is_ready(
     book: &[u8],
     i: u16,
     p: u16,
-    undone: &[bool; SLOTS],
-    waits: &mut [u16; RECORDS],
-    named: &[u16; RECORDS],
-    ends: &[u16; RECORDS],
-    hints: &mut [u16; RECORDS],
+    undone: &[bool],
+    waits: &mut [u16],
+    named: &[u16],
+    ends: &[u16],
+    hints: &mut [u16],
 ) -> bool
     requires { ⌜ Readable (now book) × (i < length (declared (now book))) × (p ≡ constantIn (declared (now book)) i .place) ⌝ }
     requires { ⌜ Standing (declared (now book)) (now undone) (now waits) × Hinted (declared (now book)) (now named) (now hints) (now ends) ⌝ }
@@ -172,8 +176,7 @@ fn is_ready(
     ensures { λ _. ⌜ Hinted (declared (now (book .entry))) (now (named .entry)) (now (hints .exit)) (now (ends .entry)) ⌝ }
 {
     let at = i as usize;
-    let w = waits[at] as usize;
-    if undone[w] {
+    if is_to_come(waits[at], undone) {
         return false;
     }
     let r = record::record_at(book, p);
@@ -191,12 +194,12 @@ fn first_ready(
     book: &[u8],
     low: u16,
     m: u16,
-    places: &[u16; RECORDS],
-    undone: &[bool; SLOTS],
-    waits: &mut [u16; RECORDS],
-    named: &[u16; RECORDS],
-    ends: &[u16; RECORDS],
-    hints: &mut [u16; RECORDS],
+    places: &[u16],
+    undone: &[bool],
+    waits: &mut [u16],
+    named: &[u16],
+    ends: &[u16],
+    hints: &mut [u16],
 ) -> u16
     requires { ⌜ Readable (now book) × Places (read (now book)) m (now places) × (low ≤ m) ⌝ }
     requires { ⌜ Standing (declared (now book)) (now undone) (now waits) × Hinted (declared (now book)) (now named) (now hints) (now ends) ⌝ }
@@ -221,12 +224,13 @@ fn put_value(
     value: Checked,
     name: u16,
     k: u16,
-    known: &mut [bool; NAMES],
-    worth: &mut [u64; NAMES],
-    stored: &mut [bool; RECORDS],
-    values: &mut [u64; RECORDS],
+    known: &mut [bool],
+    worth: &mut [u64],
+    stored: &mut [bool],
+    values: &mut [u64],
 )
-    requires { ⌜ (name < 4096) × (k < 1344) ⌝ }
+    requires { ⌜ (name < length (now known)) × (length (now worth) ≡ length (now known)) ⌝ }
+    requires { ⌜ (k < length (now stored)) × (k < length (now values)) ⌝ }
     ensures { λ _. ⌜ now (known .exit) ≡ knownThen name (answer value) (now (known .entry)) ⌝ }
     ensures { λ _. ⌜ now (worth .exit) ≡ worthThen name (answer value) (now (worth .entry)) ⌝ }
     ensures { λ _. ⌜ now (stored .exit) ≡ set (now (stored .entry)) k (hasValue (answer value)) ⌝ }
@@ -255,15 +259,16 @@ fn settle(
     p: u16,
     i: u16,
     k: u16,
-    undone: &mut [bool; SLOTS],
-    waits: &mut [u16; RECORDS],
-    known: &mut [bool; NAMES],
-    worth: &mut [u64; NAMES],
-    order: &mut [u16; RECORDS],
-    stored: &mut [bool; RECORDS],
-    values: &mut [u64; RECORDS],
+    undone: &mut [bool],
+    waits: &mut [u16],
+    known: &mut [bool],
+    worth: &mut [u64],
+    order: &mut [u16],
+    stored: &mut [bool],
+    values: &mut [u64],
 )
-    requires { ⌜ IsConstant (now book) p × (i < 1344) × (k < 1344) ⌝ }
+    requires { ⌜ IsConstant (now book) p × (i < length (now waits)) × NamesBelow (now book) (length (now undone)) ⌝ }
+    requires { ⌜ Long (now book) (k + 1) (now known) (now worth) (now order) (now stored) (now values) ⌝ }
     ensures { λ _. ⌜ Settles (constantAt (read (now (book .entry))) p) i k (now (undone .entry)) (now (undone .exit))
         (now (waits .entry)) (now (waits .exit)) (now (known .entry)) (now (known .exit)) (now (worth .entry)) (now (worth .exit))
         (now (order .entry)) (now (order .exit)) (now (stored .entry)) (now (stored .exit)) (now (values .entry)) (now (values .exit)) ⌝ }
@@ -283,22 +288,22 @@ fn settle(
 pub(crate) fn settle_constants(
     book: &[u8],
     m: u16,
-    places: &[u16; RECORDS],
-    undone: &mut [bool; SLOTS],
-    waits: &mut [u16; RECORDS],
-    named: &[u16; RECORDS],
-    ends: &[u16; RECORDS],
-    hints: &mut [u16; RECORDS],
-    known: &mut [bool; NAMES],
-    worth: &mut [u64; NAMES],
-    order: &mut [u16; RECORDS],
-    stored: &mut [bool; RECORDS],
-    values: &mut [u64; RECORDS],
+    places: &[u16],
+    undone: &mut [bool],
+    waits: &mut [u16],
+    named: &[u16],
+    ends: &[u16],
+    hints: &mut [u16],
+    known: &mut [bool],
+    worth: &mut [u64],
+    order: &mut [u16],
+    stored: &mut [bool],
+    values: &mut [u64],
 ) -> u16
     requires { ⌜ Readable (now book) × Places (read (now book)) m (now places) ⌝ }
     requires { ⌜ Undone (declared (now book)) [] (now undone) × Waits (declared (now book)) [] (now waits)
         × Hinted (declared (now book)) (now named) (now hints) (now ends) ⌝ }
-    requires { ⌜ Long (now known) (now worth) (now order) (now stored) (now values) ⌝ }
+    requires { ⌜ NamesBelow (now book) (length (now undone)) × Long (now book) m (now known) (now worth) (now order) (now stored) (now values) ⌝ }
     ensures { λ r. ⌜ Evaluated (outcomeOver (now (book .entry)) (now (known .entry)) (now (worth .entry))) r
         (now (known .entry)) (now (known .exit)) (now (worth .entry)) (now (worth .exit)) (now (order .entry)) (now (order .exit))
         (now (stored .entry)) (now (stored .exit)) (now (values .entry)) (now (values .exit)) ⌝ }

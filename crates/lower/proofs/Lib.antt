@@ -4,6 +4,7 @@ pub mod Laws
 pub mod Told
 pub mod Demand3
 pub mod Parting
+pub mod Sizes
 pub mod Counting
 pub mod Ending
 pub mod Runs

@@ -4,14 +4,8 @@ use Prim.Native.Nat.{ℕ}
 use mathlib.Core.Bool.{Bool}
 use mathlib.Core.List.{List}
 use mathlib.Core.Path.{_≡_, refl, sym, ap, _∙_}
-use native.Mathlib.Omega.{arith}
-use lib.ListN.{length, replicate, getD-replicate}
-use borrow.Author.Tests.{eqb-true}
-use Rattle.book.specs.Blocks.{records}
-use Rattle.book.specs.Faults.{recordOf}
-use Rattle.book.specs.Outline.{read, numbersOf}
-use Rattle.book.specs.Trees.{Readable}
-use Rattle.book.proofs.Members.{mem-keep, mem-up-to}
+use lib.ListN.{replicate}
+use Rattle.book.specs.Outline.{read, _!_}
 use Rattle.constants.specs.OfBook.{settled}
 use Rattle.types.specs.declared.LowerCtx.{LowerCtx}
 use Rattle.types.specs.declared.Scope.{Scope}
@@ -24,11 +18,11 @@ use Rattle.types.specs.Resolved.{Names, POISON}
 use Rattle.types.specs.Step.{Step, _>>_, forEach}
 use Rattle.types.specs.Numbers.{plainAliases, registerDeclarations}
 use Rattle.types.specs.Alias.{lowerAlias}
-use Rattle.types.specs.Standing.{Lent, Held, held, Stands}
+use Rattle.types.specs.Standing.{Lent, Held, held, From, Stands}
 use Rattle.types.specs.Aliased.{Unlowered, LowersAliases}
 use Rattle.types.specs.Lowers.{GoesOn, LowersPart}
 use Rattle.types.proofs.Adds.{runs-in-turn}
-use Rattle.types.proofs.Typing.{its-name}
+use Rattle.types.proofs.Numbering.{all-same}
 use Rattle.types.proofs.Starting.{startCtx, from-start}
 use Rattle.types.proofs.Emitting.{limitsOf}
 use Rattle.bodies.specs.Constant.{lowerConstants}
@@ -80,19 +74,13 @@ in-three most m n o k s =
     go (stopped c p) = refl
 
 -- no plain alias is lowered yet where all entries are POISON
-pub none-lowered : {book : List ℕ} → Readable book → Unlowered book (replicate 4096 POISON)
-unfolding read plainAliases numbersOf
-none-lowered {book} readable n among =
-    let rs = records book in
-    let (there, kind) = mem-keep _ _ (mem-keep _ _ among .0) in
-    let is : recordOf rs n .kind ≡ 23 = eqb-true _ 23 kind in
-    let name = its-name rs (readable .well-formed) (mem-up-to (length rs) there) (omega (arith, is)) (omega (arith, is)) in
-    getD-replicate 4096 (recordOf rs n .a) POISON 0 name
+pub none-lowered : (book : List ℕ) {aliases : List ℕ} (size : ℕ) → aliases ≡ replicate size POISON → Unlowered book aliases
+none-lowered book size are n among = rw are (all-same size ((read book ! n) .a) POISON)
 
 -- behind the numbering, where all entries of plain aliases are POISON
 module _
-    {book : List ℕ} {scope : Scope} {ambiguous : List Bool} {generics numbers : List ℕ} (results diagnostics : List ℕ)
-    (numbered : Numbered book scope ambiguous generics numbers)
+    {book : List ℕ} {scope : Scope} {ambiguous : List Bool} {generics numbers none : List ℕ} (results diagnostics : List ℕ)
+    (numbered : Numbered book scope ambiguous generics numbers none)
   where
     abbrev start-held : Held
     start-held = held numbers (replicate 2048 POISON) results diagnostics
@@ -104,14 +92,17 @@ module _
     aliases-first = forEach (lowerAlias (read book)) (plainAliases (read book))
 
     -- what a lowering starts from stands for something
-    pub start-stands : Stands book scope (replicate 4096 POISON) (startCtx scope) start-held
+    start-from : From book scope (lentOf results diagnostics) 0 none (startCtx scope) start-held names start
+    start-from = rw (numbered .aliases-are) (from-start results diagnostics (numbered .registered))
+
+    pub start-stands : Stands book scope none (startCtx scope) start-held
     start-stands =
         record {
           lent = lentOf results diagnostics;
           place = 0;
           names = names;
           state = start;
-          from = from-start results diagnostics (numbered .registered);
+          from = start-from;
         }
 
     -- the plain aliases and the rest are the book
@@ -131,9 +122,9 @@ module _
               rw (in-three (usedLimits results diagnostics) aliases-first (lowerConstants (read book) (settled (read book))) (lowerBodies (read book)) names start) g;
         }
 
-    module _ {x : Part} {aliases : List ℕ} {h : Held} (did : LowersAliases book scope (replicate 4096 POISON) (startCtx scope) start-held x aliases h) where
+    module _ {x : Part} {aliases : List ℕ} {h : Held} (did : LowersAliases book scope none (startCtx scope) start-held x aliases h) where
       first-goes : GoesOn book scope (lentOf results diagnostics) aliases h x (run (usedLimits results diagnostics) (aliases-first names) start)
-      first-goes = did (lentOf results diagnostics) 0 names start (from-start results diagnostics (numbered .registered))
+      first-goes = did (lentOf results diagnostics) 0 names start start-from
 
       -- the plain aliases were lowered: the rest has where to start from
       pub rest-stands : {ctx : LowerCtx} → x ≡ Lowered ctx → Stands book scope aliases ctx h

@@ -1,18 +1,21 @@
 -- What the functions inside `lower` promise.
 -- Assumes nothing.
-use Prim.Native.Nat.{ℕ}
-use mathlib.Core.Bool.{Bool}
+use Prim.Native.Nat.{ℕ, _≤_}
+use mathlib.Core.Bool.{Bool, false}
 use mathlib.Core.List.{List}
 use mathlib.Core.Path.{_≡_}
+use lib.ListN.{length, replicate}
+use Rattle.book.specs.Blocks.{recordCount}
 use Rattle.book.specs.Outline.{Book, read}
 use Rattle.constants.specs.OfBook.{settled}
+use Rattle.constants.specs.Evaluated.{Long}
 use Rattle.types.specs.declared.Scope.{Scope}
 use Rattle.types.specs.declared.Part.{Part}
 use Rattle.types.specs.Lowering.{Out, start, run, usedLimits}
-use Rattle.types.specs.Resolved.{Names}
+use Rattle.types.specs.Resolved.{Names, POISON}
 use Rattle.types.specs.Step.{Step, _>>_}
 use Rattle.types.specs.Standing.{Lent, held}
-use Rattle.types.specs.Registered.{Registered}
+use Rattle.types.specs.Registered.{Clear, Registered}
 use Rattle.types.specs.Lowers.{GoesOn}
 use Rattle.bodies.specs.Constant.{lowerConstants}
 use Rattle.bodies.specs.Bodies.{lowerBodies}
@@ -29,10 +32,24 @@ lentOf results diagnostics = record { results = results; diagnostics = diagnosti
 abbrev pub lowerRest : Book → Step Unit
 lowerRest book = lowerConstants book (settled book) >> lowerBodies book
 
--- the declarations of a book are numbered, whatever stood in the array of generic aliases before
-pub record Numbered (book : List ℕ) (scope : Scope) (ambiguous : List Bool) (generics numbers : List ℕ) : Type 0 where
+-- tables of values that are empty, with room for the names of a book's constants and for all its records
+pub record Values (book : List ℕ) (known : List Bool) (worth order : List ℕ) (stored : List Bool) (values : List ℕ) : Type 0 where
+  pub known-are : known ≡ replicate (length known) false
+  pub room : Long book (recordCount book) known worth order stored values
+
+-- tables by name that are empty, of one length, with an entry for each name of a book that may need one; and room for its generic aliases
+pub record Tables (book : List ℕ) (ambiguous : List Bool) (generics numbers aliases : List ℕ) : Type 0 where
+  pub clear : Clear book ambiguous numbers
+  pub few : length numbers ≤ 4096
+  pub generics-long : recordCount book ≤ length generics
+  pub aliases-are : aliases ≡ replicate (length numbers) POISON
+
+-- the declarations of a book are numbered, whatever stood in the table of generic aliases before, and no plain alias is lowered
+pub record Numbered (book : List ℕ) (scope : Scope) (ambiguous : List Bool) (generics numbers aliases : List ℕ) : Type 0 where
+  pub size : ℕ
   pub before : List ℕ
-  pub registered : Registered book scope ambiguous before generics numbers
+  pub registered : Registered book size scope ambiguous before generics numbers
+  pub aliases-are : aliases ≡ replicate size POISON
 
 -- the parts of a book were lowered, one after the other: the answer stands for how that ends, with some arrays
 pub record LowersBook (book results diagnostics : List ℕ) (x : Part) (results′ diagnostics′ : List ℕ) : Type 0 where

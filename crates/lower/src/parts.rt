@@ -3,17 +3,18 @@
 ghost use mathlib.Core.Path.{_≡_};
 ghost use mathlib.Core.List.{List, map};
 ghost use Prim.Native.Nat.{_≤_};
-ghost use lib.ListN.{take};
+ghost use lib.ListN.{length, take};
 ghost use Rattle.book.specs.Blocks.{recordCount, wildcards};
 ghost use Rattle.book.specs.Outline.{read};
 ghost use Rattle.book.specs.Trees.{Readable};
 ghost use Rattle.constants.specs.Order.{Settled};
 ghost use Rattle.constants.specs.Evaluated.{hasValue};
+ghost use Rattle.types.specs.Below.{NamesBelow};
 ghost use Rattle.types.specs.Standing.{held, Reads, Stands};
 ghost use Rattle.types.specs.Lowers.{LowersPart};
 ghost use Rattle.bodies.specs.Constant.{storedCount};
 ghost use Rattle.bodies.specs.Lowers.{Holds};
-ghost use Rattle.lower.specs.Ended.{lowerRest, Numbered, LowersBook, Replies, LowersRead};
+ghost use Rattle.lower.specs.Ended.{lowerRest, Values, Tables, Numbered, LowersBook, Replies, LowersRead};
 use crate::Cause;
 use crate::Counted;
 use crate::Reply;
@@ -32,20 +33,26 @@ use types::Scope;
 use types::alias;
 use types::register;
 
+// A small book has so many records at most, and its names are below this number: then clearing the tables takes less time
+// than lowering it.
+const FEW_RECORDS: usize = 336;
+
+const FEW_NAMES: usize = 256;
+
 // Lowers the constants and the bodies, behind the plain aliases.
 fn lower_rest(
     book: &[u8],
     count: u16,
     m: u16,
-    order: &[u16; RECORDS],
-    stored: &[bool; RECORDS],
-    values: &[u64; RECORDS],
+    order: &[u16],
+    stored: &[bool],
+    values: &[u64],
     scope: Scope,
     ctx: LowerCtx,
-    ambiguous: &[bool; NAMES],
-    aliases: &[u32; NAMES],
-    generics: &[u32; RECORDS],
-    numbers: &mut [u32; NAMES],
+    ambiguous: &[bool],
+    aliases: &[u32],
+    generics: &[u32],
+    numbers: &mut [u32],
     pairs: &mut [u32; RESULTS],
     results: &mut [u8],
     diagnostics: &mut [u8],
@@ -97,21 +104,21 @@ fn lower_named(
     book: &[u8],
     count: u16,
     m: u16,
-    order: &[u16; RECORDS],
-    stored: &[bool; RECORDS],
-    values: &[u64; RECORDS],
+    order: &[u16],
+    stored: &[bool],
+    values: &[u64],
     scope: Scope,
-    ambiguous: &[bool; NAMES],
-    generics: &[u32; RECORDS],
-    numbers: &mut [u32; NAMES],
+    ambiguous: &[bool],
+    generics: &[u32],
+    numbers: &mut [u32],
+    aliases: &mut [u32],
     results: &mut [u8],
     diagnostics: &mut [u8],
 ) -> Part
     requires { ⌜ (count ≡ recordCount (now book)) × Holds (now book) m (now order) (now stored) (now values) ⌝ }
-    requires { ⌜ Numbered (now book) scope (now ambiguous) (now generics) (now numbers) ⌝ }
+    requires { ⌜ Numbered (now book) scope (now ambiguous) (now generics) (now numbers) (now aliases) ⌝ }
     ensures { λ r. ⌜ LowersBook (now (book .entry)) (now (results .entry)) (now (diagnostics .entry)) r (now (results .exit)) (now (diagnostics .exit)) ⌝ }
 {
-    let mut aliases = [POISON_TYPE_ID; NAMES];
     let mut pairs = [POISON_TYPE_ID; RESULTS];
     let ctx = LowerCtx {
         next: scope.named,
@@ -124,7 +131,7 @@ fn lower_named(
         scope,
         ctx,
         ambiguous,
-        &mut aliases,
+        aliases,
         generics,
         numbers,
         &mut pairs,
@@ -142,7 +149,7 @@ fn lower_named(
             scope,
             behind,
             ambiguous,
-            &aliases,
+            aliases,
             generics,
             numbers,
             &mut pairs,
@@ -153,32 +160,27 @@ fn lower_named(
     }
 }
 
-// Numbers the declarations, and lowers all parts.
+// Numbers the declarations, and lowers all parts, with tables by name and of generic aliases that are empty.
 fn lower_records(
     book: &[u8],
     count: u16,
     imports: bool,
     m: u16,
-    order: &[u16; RECORDS],
-    stored: &[bool; RECORDS],
-    values: &[u64; RECORDS],
+    order: &[u16],
+    stored: &[bool],
+    values: &[u64],
+    ambiguous: &mut [bool],
+    generics: &mut [u32],
+    numbers: &mut [u32],
+    aliases: &mut [u32],
     results: &mut [u8],
     diagnostics: &mut [u8],
 ) -> Part
     requires { ⌜ (count ≡ recordCount (now book)) × (imports ≡ wildcards (now book)) × Holds (now book) m (now order) (now stored) (now values) ⌝ }
+    requires { ⌜ Tables (now book) (now ambiguous) (now generics) (now numbers) (now aliases) ⌝ }
     ensures { λ r. ⌜ LowersBook (now (book .entry)) (now (results .entry)) (now (diagnostics .entry)) r (now (results .exit)) (now (diagnostics .exit)) ⌝ }
 {
-    let mut ambiguous = [false; NAMES];
-    let mut generics = [0u32; RECORDS];
-    let mut numbers = [POISON_TYPE_ID; NAMES];
-    let scope = register::register_declarations(
-        book,
-        count,
-        imports,
-        &mut ambiguous,
-        &mut generics,
-        &mut numbers,
-    );
+    let scope = register::register_declarations(book, count, imports, ambiguous, generics, numbers);
     lower_named(
         book,
         count,
@@ -187,9 +189,10 @@ fn lower_records(
         stored,
         values,
         scope,
-        &ambiguous,
-        &generics,
-        &mut numbers,
+        ambiguous,
+        generics,
+        numbers,
+        aliases,
         results,
         diagnostics,
     )
@@ -227,8 +230,8 @@ fn reply_to(end: Part, stored: u16, results: &mut [u8], diagnostics: &mut [u8]) 
 }
 
 // How many of the first m constants are stored.
-fn count_stored(m: u16, stored: &[bool; RECORDS]) -> u16
-    requires { ⌜ m ≤ 1344 ⌝ }
+fn count_stored(m: u16, stored: &[bool]) -> u16
+    requires { ⌜ m ≤ length (now stored) ⌝ }
     ensures { λ r. ⌜ ((cs : List Settled) → take m (now (stored .entry)) ≡ map (λ x. hasValue (x .value)) cs → r ≡ storedCount cs) ⌝ }
 {
     let mut n: u16 = 0;
@@ -243,8 +246,88 @@ fn count_stored(m: u16, stored: &[bool; RECORDS]) -> u16
     n
 }
 
-// Lowers a book that reading accepts, with so many records.
-pub(crate) fn lower_read(
+// Lowers a book that reading accepts, with so many records, with tables that are empty and long enough for it.
+fn lower_with(
+    book: &[u8],
+    count: u16,
+    imports: bool,
+    known: &mut [bool],
+    worth: &mut [u64],
+    order: &mut [u16],
+    stored: &mut [bool],
+    values: &mut [u64],
+    ambiguous: &mut [bool],
+    generics: &mut [u32],
+    numbers: &mut [u32],
+    aliases: &mut [u32],
+    results: &mut [u8],
+    diagnostics: &mut [u8],
+) -> Counted
+    requires { ⌜ Readable (now book) × (count ≡ recordCount (now book)) × (imports ≡ wildcards (now book)) ⌝ }
+    requires { ⌜ Values (now book) (now known) (now worth) (now order) (now stored) (now values) ⌝ }
+    requires { ⌜ Tables (now book) (now ambiguous) (now generics) (now numbers) (now aliases) ⌝ }
+    ensures { λ r. ⌜ LowersRead (now (book .entry)) (now (results .entry)) (now (diagnostics .entry)) r (now (results .exit)) (now (diagnostics .exit)) ⌝ }
+{
+    let m = constants::evaluate_constants(book, count, known, worth, order, stored, values);
+    let end = lower_records(
+        book,
+        count,
+        imports,
+        m,
+        order,
+        stored,
+        values,
+        ambiguous,
+        generics,
+        numbers,
+        aliases,
+        results,
+        diagnostics,
+    );
+    reply_to(end, count_stored(m, stored), results, diagnostics)
+}
+
+// Lowers a small book: the tables that it takes are soon cleared.
+fn lower_small(
+    book: &[u8],
+    count: u16,
+    imports: bool,
+    results: &mut [u8],
+    diagnostics: &mut [u8],
+) -> Counted
+    requires { ⌜ Readable (now book) × (count ≡ recordCount (now book)) × (imports ≡ wildcards (now book)) ⌝ }
+    requires { ⌜ (count ≤ 336) × NamesBelow (now book) 256 ⌝ }
+    ensures { λ r. ⌜ LowersRead (now (book .entry)) (now (results .entry)) (now (diagnostics .entry)) r (now (results .exit)) (now (diagnostics .exit)) ⌝ }
+{
+    let mut known = [false; FEW_NAMES];
+    let mut worth = [0u64; FEW_NAMES];
+    let mut order = [0u16; FEW_RECORDS];
+    let mut stored = [false; FEW_RECORDS];
+    let mut values = [0u64; FEW_RECORDS];
+    let mut ambiguous = [false; FEW_NAMES];
+    let mut generics = [0u32; FEW_RECORDS];
+    let mut numbers = [POISON_TYPE_ID; FEW_NAMES];
+    let mut aliases = [POISON_TYPE_ID; FEW_NAMES];
+    lower_with(
+        book,
+        count,
+        imports,
+        &mut known,
+        &mut worth,
+        &mut order,
+        &mut stored,
+        &mut values,
+        &mut ambiguous,
+        &mut generics,
+        &mut numbers,
+        &mut aliases,
+        results,
+        diagnostics,
+    )
+}
+
+// Lowers any other book.
+fn lower_large(
     book: &[u8],
     count: u16,
     imports: bool,
@@ -259,25 +342,43 @@ pub(crate) fn lower_read(
     let mut order = [0u16; RECORDS];
     let mut stored = [false; RECORDS];
     let mut values = [0u64; RECORDS];
-    let m = constants::evaluate_constants(
+    let mut ambiguous = [false; NAMES];
+    let mut generics = [0u32; RECORDS];
+    let mut numbers = [POISON_TYPE_ID; NAMES];
+    let mut aliases = [POISON_TYPE_ID; NAMES];
+    lower_with(
         book,
         count,
+        imports,
         &mut known,
         &mut worth,
         &mut order,
         &mut stored,
         &mut values,
-    );
-    let end = lower_records(
-        book,
-        count,
-        imports,
-        m,
-        &order,
-        &stored,
-        &values,
+        &mut ambiguous,
+        &mut generics,
+        &mut numbers,
+        &mut aliases,
         results,
         diagnostics,
-    );
-    reply_to(end, count_stored(m, &stored), results, diagnostics)
+    )
+}
+
+// Lowers a book that reading accepts, with so many records.
+pub(crate) fn lower_read(
+    book: &[u8],
+    count: u16,
+    imports: bool,
+    results: &mut [u8],
+    diagnostics: &mut [u8],
+) -> Counted
+    requires { ⌜ Readable (now book) × (count ≡ recordCount (now book)) × (imports ≡ wildcards (now book)) ⌝ }
+    ensures { λ r. ⌜ LowersRead (now (book .entry)) (now (results .entry)) (now (diagnostics .entry)) r (now (results .exit)) (now (diagnostics .exit)) ⌝ }
+{
+    if count <= 336 {
+        if register::names_below(book, count, 256) {
+            return lower_small(book, count, imports, results, diagnostics);
+        }
+    }
+    lower_large(book, count, imports, results, diagnostics)
 }

@@ -97,7 +97,7 @@ whole bytes lent k s = run (limitsOf lent) (forEach (lowerAlias (read bytes)) (p
 
 -- so it is whatever the arrays stood for at the start, and the aliases from n on are not lowered yet
 pub record Aliasing (bytes : List ℕ) (scope : Scope) (aliases₀ : List ℕ) (ctx₀ : LowerCtx) (h₀ : Held) (aliases : List ℕ) (ctx : LowerCtx) (h : Held) (n : ℕ) : Type 0 where
-  pub free : (m : ℕ) → List·Memᴰ m (plainFrom (read bytes) n) → getD aliases ((read bytes ! m) .a) 0 ≡ POISON
+  pub free : (m : ℕ) → List·Memᴰ m (plainFrom (read bytes) n) → getD aliases ((read bytes ! m) .a) POISON ≡ POISON
   pub along :
       (lent : Lent) (place : ℕ) (k : Names) (s : State) → From bytes scope lent place aliases₀ ctx₀ h₀ k s →
       Along bytes scope lent aliases ctx h n (whole bytes lent k s)
@@ -173,7 +173,7 @@ module _
         listed : plainFrom book n ≡ n ∷ plainFrom book (suc n)
         listed = plain-next book n true here is
 
-        free-here : getD aliases ((book ! n) .a) 0 ≡ POISON
+        free-here : getD aliases ((book ! n) .a) POISON ≡ POISON
         free-here = g .free n (rw listed (List·Memᴰ·head refl))
 
         -- no other one has its name

@@ -146,7 +146,8 @@ module _
         pairs-long = f .pairs-long;
         pairs-are = f .pairs-are;
         pairs-free = f .pairs-free;
-        aliases-are = λ n less. alias-more (s .results) (r ∷ []) _ _ (f .aliases-are n less);
+        aliases-long = f .aliases-long;
+        aliases-are = λ n. alias-more (s .results) (r ∷ []) _ _ (f .aliases-are n);
       }
 
   -- with one diagnostic more
@@ -178,6 +179,7 @@ module _
         pairs-long = f .pairs-long;
         pairs-are = f .pairs-are;
         pairs-free = f .pairs-free;
+        aliases-long = f .aliases-long;
         aliases-are = f .aliases-are;
       }
 

@@ -5,7 +5,7 @@ use mathlib.Core.List.{List, [], _∷_}
 use mathlib.Core.Path.{_≡_, refl, sym, _∙_}
 use native.Mathlib.Decide.{ℕ-discrete}
 use native.Mathlib.Omega.{arith}
-use lib.ListN.{length, set, getD, List·getD-eq-default}
+use lib.ListN.{length, set, getD, length-set}
 use lib.Seq.{getD-set-same, getD-set-other}
 use borrow.Author.Tests.{ltb-false}
 use Rattle.record.specs.declared.Record.{Record}
@@ -40,12 +40,6 @@ use Rattle.types.proofs.Arms.{rooted}
 use Rattle.types.proofs.Rooting.{resolved-written, resolved-stands}
 use Rattle.types.proofs.Generics.{alias-is}
 
--- an entry that is not the default is inside the list
-entry-inside : (l : List ℕ) (n : ℕ) → getD l n 0 ≡ POISON → n < length l
-entry-inside l n e =
-    let out : ¬ (length l ≤ n) = λ over. omega (arith, List·getD-eq-default l 0 {n = n} over) in
-    omega arith
-
 module _
     {bytes : List ℕ} {scope : Scope} {lent : Lent} {place : ℕ} {aliases : List ℕ} {ctx : LowerCtx} {h : Held} {k : Names} {s : State}
     (f : From bytes scope lent place aliases ctx h k s) where
@@ -70,15 +64,16 @@ module _
         pairs-long = f .pairs-long;
         pairs-are = f .pairs-are;
         pairs-free = f .pairs-free;
+        aliases-long = f .aliases-long;
         aliases-are = f .aliases-are;
       }
 
   -- an alias more: its type stands among the results, and its name had none
   with-alias :
-      (name : ℕ) (t : ResolvedType) {first root : ℕ} → name < 4096 → getD aliases name 0 ≡ POISON → StandsAt (s .results) first root t →
+      (name : ℕ) (t : ResolvedType) {first root : ℕ} → name < length aliases → getD aliases name POISON ≡ POISON → StandsAt (s .results) first root t →
       From bytes scope lent place (set aliases name (65536 * root + first)) ctx h (withAlias name t k) s
   unfolding withAlias ownNumber aliasOf AliasIs
-  with-alias name t {first} {root} low free stands =
+  with-alias name t {first} {root} inside free stands =
       record {
         results-are = f .results-are;
         diagnostics-are = f .diagnostics-are;
@@ -97,20 +92,21 @@ module _
         pairs-long = f .pairs-long;
         pairs-are = f .pairs-are;
         pairs-free = f .pairs-free;
-        aliases-are = λ n below. is n below (ℕ-discrete n name);
+        aliases-long = length-set aliases name w ∙ f .aliases-long;
+        aliases-are = λ n. is n (ℕ-discrete n name);
       }
     where
       w : ℕ
       w = 65536 * root + first
 
-      is : (n : ℕ) → n < 4096 → Dec (n ≡ name) → AliasIs (s .results) (getD (set aliases name w) n 0) (aliasOf (withAlias name t k) n)
-      is n below (yes e) =
+      is : (n : ℕ) → Dec (n ≡ name) → AliasIs (s .results) (getD (set aliases name w) n POISON) (aliasOf (withAlias name t k) n)
+      is n (yes e) =
           let first-is : w % 65536 ≡ first = omega (arith, stands .root-is, stands .inside, f .results-fit) in
           let root-is : w / 65536 ≡ root = omega (arith, stands .root-is, stands .inside, f .results-fit) in
-          rw (e, getD-set-same aliases name w 0 (entry-inside aliases name free), entry-new name t (k .aliases) (no-alias name low f free), first-is, root-is)
+          rw (e, getD-set-same aliases name w POISON inside, entry-new name t (k .aliases) (no-alias name f free), first-is, root-is)
           stands
-      is n below (no other) =
-          rw (getD-set-other aliases name n w 0 other, entry-other n name t (k .aliases) other) (f .aliases-are n below)
+      is n (no other) =
+          rw (getD-set-other aliases name n w POISON other, entry-other n name t (k .aliases) other) (f .aliases-are n)
 
 -- What is left to do when its type is resolved: its record is written, by `emit`, or there is no room for it
 module _
@@ -129,15 +125,15 @@ module _
     last m = done (tt, withAlias (r .a) (t .type) k)
 
     pub alias-finished :
-        r .a < 4096 → SizedSpan (r .span) → getD aliases (r .a) 0 ≡ POISON → (m : ℕ) (behind : LowerCtx) → x ≡ Root m behind →
+        r .a < 65536 → r .a < length aliases → SizedSpan (r .span) → getD aliases (r .a) POISON ≡ POISON → (m : ℕ) (behind : LowerCtx) → x ≡ Root m behind →
         Goes bytes scope lent place (set aliases (r .a) (65536 * root + first)) (withResults h l) (lowered.Done behind)
         (run (limitsOf lent) (finishAlias r t k) s)
     unfolding run andThen
-    alias-finished low sized free m behind q =
+    alias-finished short inside sized free m behind q =
         let is-one : IsResult one = omega (arith, stands .inside, f .results-fit) in
         let (room, _, next) = root-emitted _ ctx (sym (did .0) ∙ q) in
         rw (room-run f one last room, next, did .1)
-        (goes (with-alias (from-emitted f one is-one room) (r .a) (t .type) low free (stands-more (one ∷ []) stands)))
+        (goes (with-alias (from-emitted f one is-one room) (r .a) (t .type) inside free (stands-more (one ∷ []) stands)))
 
     pub alias-refused :
         (c : stops.Stop) → x ≡ Stopped c →

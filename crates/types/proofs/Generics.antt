@@ -22,10 +22,11 @@ use Rattle.book.proofs.Listed.{keep-more, keep-apart, numbersBelow, listed-next
 use Rattle.types.specs.Numbers.{parameters, genericAt, typeDeclarations, genericAliases}
 use Rattle.types.specs.Standing.{genericWord}
 use Rattle.types.specs.Steps.{IsType}
+use Rattle.types.specs.Below.{NamesBelow}
 use Rattle.types.specs.Registered.{IsAlias}
 use Rattle.types.specs.Aliased.{isPlainAlias}
 use Rattle.types.proofs.Heads.{target-is}
-use Rattle.types.proofs.Typing.{isType, type-kind, Other, its-name}
+use Rattle.types.proofs.Typing.{isType, type-kind, Other}
 
 -- something is there
 abbrev there : {A : Type 0} → Option A → Bool
@@ -141,9 +142,9 @@ module _ {bytes : List ℕ} {n : ℕ} (x : IsAlias bytes n) {r : Record} (is-at 
   pub alias-is : read bytes ! n ≡ r
   alias-is = there-is (x .readable) (x .here) is-at
 
-  pub alias-name : r .a < 4096
+  pub alias-name : {size : ℕ} → NamesBelow bytes size → r .a < size
   unfolding read
-  alias-name = rw alias-is at (its-name (records bytes) (x .readable .well-formed) here (omega (arith, x .kind)) (omega (arith, x .kind)))
+  alias-name below = rw alias-is at (below .declarations n (x .here) (omega (arith, x .kind)) (omega (arith, x .kind)))
 
   pub alias-target : IsType bytes (r .b)
   unfolding read

@@ -180,6 +180,12 @@ word-of w g e is =
     let t : w % 65536 ≡ g .target = omega arith in
     λ i. alias (record { parameter = p i; target = t i })
 
+-- the table of generic aliases has an entry for each
+pub generics-fit :
+    {bytes : List ℕ} {scope : Scope} {ambiguous : List Bool} {words : List ℕ} → Reads bytes scope ambiguous words →
+    scope .named ≤ scope .types + length words
+generics-fit r = omega (arith, r .named, r .generics-long)
+
 -- the three ways in which the head is found
 module _
     {bytes : List ℕ} {scope : Scope} {ambiguous : List Bool} {words : List ℕ} (r : Reads bytes scope ambiguous words)

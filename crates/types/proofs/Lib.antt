@@ -22,6 +22,7 @@ pub mod Naming
 pub mod Plain
 pub mod Parameters
 pub mod Numbering
+pub mod Below
 pub mod Typing
 pub mod Generics
 pub mod Registering

@@ -51,13 +51,13 @@ known-or rs Nothing other os d h = h
 
 module _
     {bytes : List ℕ} {scope : Scope} {lent : Lent} {place : ℕ} {aliases : List ℕ} {ctx : LowerCtx} {h : Held} {k : Names} {s : State}
-    (n : ℕ) (below : n < 4096) (f : From bytes scope lent place aliases ctx h k s) where
+    (n : ℕ) (f : From bytes scope lent place aliases ctx h k s) where
   -- an entry that is not POISON is a plain alias; its root is one of at most 2,048 results
   pub is-alias :
-      (getD aliases n 0 ≡ POISON → ⊥) →
-      Finds (s .results) (Alias (getD aliases n 0 % 65536) (getD aliases n 0 / 65536 % 65536)) (findName (read bytes) n k)
+      (getD aliases n POISON ≡ POISON → ⊥) →
+      Finds (s .results) (Alias (getD aliases n POISON % 65536) (getD aliases n POISON / 65536 % 65536)) (findName (read bytes) n k)
   unfolding firstOf AliasIs
-  is-alias there = go (getD aliases n 0) (aliasOf k n) there refl (f .aliases-are n below)
+  is-alias there = go (getD aliases n POISON) (aliasOf k n) there refl (f .aliases-are n)
     where
       go :
           (e : ℕ) (o : Option ResolvedType) → (e ≡ POISON → ⊥) → aliasOf k n ≡ o → AliasIs (s .results) e o →
@@ -68,34 +68,34 @@ module _
           rw (low, name-is (read bytes) n k is refl refl refl refl) (an-alias a)
 
   -- and POISON is none
-  pub no-alias : getD aliases n 0 ≡ POISON → aliasOf k n ≡ none
+  pub no-alias : getD aliases n POISON ≡ POISON → aliasOf k n ≡ none
   unfolding AliasIs
-  no-alias e = go (aliasOf k n) (f .aliases-are n below)
+  no-alias e = go (aliasOf k n) (f .aliases-are n)
     where
-      go : (o : Option ResolvedType) → AliasIs (s .results) (getD aliases n 0) o → o ≡ none
+      go : (o : Option ResolvedType) → AliasIs (s .results) (getD aliases n POISON) o → o ≡ none
       go none a = refl
       go (some t) a = absurd (omega (arith, a .inside, f .results-fit))
 
-  module _ {ambiguous : List Bool} {generics : List ℕ} (r : Reads bytes scope ambiguous generics) (free : getD aliases n 0 ≡ POISON) where
+  module _ {ambiguous : List Bool} {generics : List ℕ} (r : Reads bytes scope ambiguous generics) (free : getD aliases n POISON ≡ POISON) where
     -- a declared name
     pub is-declared :
-        getD (h .numbers) n 0 < scope .types →
-        Finds (s .results) (Known (record { 0 = getD (h .numbers) n 0 })) (findName (read bytes) n k)
+        getD (h .numbers) n POISON < scope .types →
+        Finds (s .results) (Known (record { 0 = getD (h .numbers) n POISON })) (findName (read bytes) n k)
     unfolding firstOf
     is-declared less =
-        let own : ℕ = getD (h .numbers) n 0 in
+        let own : ℕ = getD (h .numbers) n POISON in
         let there : own ≡ POISON → ⊥ = omega (arith, r .few, r .named) in
         let known : ownNumber k n ≡ some own =
-        sym (f .numbers-are n below) ∙ ap (λ b. cond b none (some own)) (ne-eqb own POISON there) in
-        rw (name-is (read bytes) n k (no-alias free) (f .declared-are n below ∙ lt-ltb _ _ less) refl known refl) (a-number refl)
+        sym (f .numbers-are n) ∙ ap (λ b. cond b none (some own)) (ne-eqb own POISON there) in
+        rw (name-is (read bytes) n k (no-alias free) (f .declared-are n ∙ lt-ltb _ _ less) refl known refl) (a-number refl)
 
-    module _ (not-declared : scope .types ≤ getD (h .numbers) n 0) where
+    module _ (not-declared : scope .types ≤ getD (h .numbers) n POISON) where
       -- an ambiguous one
       pub is-ambiguous : getD ambiguous n false ≡ true → Finds (s .results) (Unresolved 0) (findName (read bytes) n k)
       unfolding firstOf
       is-ambiguous m =
           rw
-          (name-is (read bytes) n k (no-alias free) (f .declared-are n below ∙ le-ltb _ _ not-declared) (sym (r .ambiguous-are n below) ∙ m) refl refl)
+          (name-is (read bytes) n k (no-alias free) (f .declared-are n ∙ le-ltb _ _ not-declared) (sym (r .ambiguous-are n) ∙ m) refl refl)
           (a-message refl)
 
       -- one that may have a number
@@ -109,8 +109,8 @@ module _
       is-known {other} w x m e number is rest =
           rw (
             is,
-            name-is (read bytes) n k (no-alias free) (f .declared-are n below ∙ le-ltb _ _ not-declared) (sym (r .ambiguous-are n below) ∙ m)
-                (sym (number ∙ f .numbers-are n below)) (sym (r .wildcards-are) ∙ e),
+            name-is (read bytes) n k (no-alias free) (f .declared-are n ∙ le-ltb _ _ not-declared) (sym (r .ambiguous-are n) ∙ m)
+                (sym (number ∙ f .numbers-are n)) (sym (r .wildcards-are) ∙ e),
           )
           (known-or (s .results) x other (onlyIf w (some stub) ∷ []) (unresolved 1) (go w rest))
         where

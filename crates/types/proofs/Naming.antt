@@ -1,6 +1,6 @@
 -- A name or a pair by what it is found to be: the step that the resolvers take then.
 -- Assumes nothing.
-use Prim.Native.Nat.{ℕ, _<_}
+use Prim.Native.Nat.{ℕ}
 use mathlib.Core.Bool.{Bool, true, false, cond}
 use mathlib.Core.List.{List, _∷_, []}
 use mathlib.Core.Option.{Option, some, none, Option·map, Option·some-ne-none}
@@ -102,10 +102,10 @@ no-number book n k e = by-alias (aliasOf k n) e
 
 pub stub-unnumbered :
     {bytes : List ℕ} {scope : Scope} {lent : Lent} {place : ℕ} {aliases : List ℕ} {ctx : LowerCtx} {h : Held} {k : Names} {s : State} →
-    From bytes scope lent place aliases ctx h k s → (n : ℕ) → n < 4096 → findName (read bytes) n k ≡ stub → getD (h .numbers) n 0 ≡ POISON
-stub-unnumbered {bytes} {h = h} {k = k} f n less e = go (eqb (getD (h .numbers) n 0) POISON) refl (f .numbers-are n less ∙ no-number (read bytes) n k e)
+    From bytes scope lent place aliases ctx h k s → (n : ℕ) → findName (read bytes) n k ≡ stub → getD (h .numbers) n POISON ≡ POISON
+stub-unnumbered {bytes} {h = h} {k = k} f n e = go (eqb (getD (h .numbers) n POISON) POISON) refl (f .numbers-are n ∙ no-number (read bytes) n k e)
   where
-    go : (b : Bool) → eqb (getD (h .numbers) n 0) POISON ≡ b → cond b none (some (getD (h .numbers) n 0)) ≡ none → getD (h .numbers) n 0 ≡ POISON
+    go : (b : Bool) → eqb (getD (h .numbers) n POISON) POISON ≡ b → cond b none (some (getD (h .numbers) n POISON)) ≡ none → getD (h .numbers) n POISON ≡ POISON
     go true q x = eqb-true _ _ q
     go false q x = absurd (Option·some-ne-none _ x)
 

@@ -1,7 +1,7 @@
--- A type record of a readable book: its names are below 4,096, and the types below it are type records too.
+-- A type record of a readable book: its names, and the types below it, which are type records too.
 -- Assumes nothing.
 use Prim.Native.Nat.{ℕ, _≤_, _<_}
-use mathlib.Core.Bool.{true}
+use mathlib.Core.Bool.{Bool, true}
 use mathlib.Core.List.{List}
 use mathlib.Core.Path.{_≡_, refl, sym, ap, _∙_, subst}
 use native.Mathlib.Omega.{arith}
@@ -15,58 +15,46 @@ use Rattle.book.specs.Faults.{recordOf}
 use Rattle.book.specs.Outline.{read, _!_}
 use Rattle.book.specs.Trees.{IsChild, IsRecord}
 use Rattle.book.proofs.Trees.{by-row}
-use Rattle.types.specs.Steps.{IsType, NamesBelow}
+use Rattle.types.specs.declared.Scope.{Scope}
+use Rattle.types.specs.Standing.{Reads}
+use Rattle.types.specs.Steps.{IsType, LeafNames}
 
 -- a type below another one
 abbrev typeChild : ℕ → Child
 typeChild n = record { group = type; number = n }
 
--- what holds of the names of a type record, and of the types below it, by its kind
+-- what holds of the names of a pair, and of the types below a type record, by its kind
 record Parts (N : ℕ → Type 0) (C : Child → Type 0) (r : Record) : Type 0 where
-  name-4 : r .kind ≡ 4 → N (r .a)
   name-5 : r .kind ≡ 5 → N (r .a) × N (r .b)
-  name-6 : r .kind ≡ 6 → N (r .a) × C (typeChild (r .b))
+  child-6 : r .kind ≡ 6 → C (typeChild (r .b))
   child-7 : r .kind ≡ 7 → C (typeChild (r .a))
   child-8 : r .kind ≡ 8 → C (typeChild (r .a)) × C (typeChild (r .b))
 
 module _ (N : ℕ → Type 0) (C : Child → Type 0) where
   -- other kinds have neither
-  no-parts : (r : Record) → (4 ≤ r .kind → r .kind ≤ 8 → ⊥) → Parts N C r
+  no-parts : (r : Record) → (5 ≤ r .kind → r .kind ≤ 8 → ⊥) → Parts N C r
   no-parts r f =
       record {
-        name-4 = λ e. absurd (f (omega arith) (omega arith));
         name-5 = λ e. absurd (f (omega arith) (omega arith));
-        name-6 = λ e. absurd (f (omega arith) (omega arith));
+        child-6 = λ e. absurd (f (omega arith) (omega arith));
         child-7 = λ e. absurd (f (omega arith) (omega arith));
         child-8 = λ e. absurd (f (omega arith) (omega arith));
-      }
-
-  parts-4 : (r : Record) → r .kind ≡ 4 → N (r .a) → Parts N C r
-  parts-4 r k n =
-      record {
-        name-4 = λ e. n;
-        name-5 = λ e. absurd (omega arith);
-        name-6 = λ e. absurd (omega arith);
-        child-7 = λ e. absurd (omega arith);
-        child-8 = λ e. absurd (omega arith);
       }
 
   parts-5 : (r : Record) → r .kind ≡ 5 → N (r .a) → N (r .b) → Parts N C r
   parts-5 r k n m =
       record {
-        name-4 = λ e. n;
         name-5 = λ e. (n, m);
-        name-6 = λ e. absurd (omega arith);
+        child-6 = λ e. absurd (omega arith);
         child-7 = λ e. absurd (omega arith);
         child-8 = λ e. absurd (omega arith);
       }
 
-  parts-6 : (r : Record) → r .kind ≡ 6 → N (r .a) → C (typeChild (r .b)) → Parts N C r
-  parts-6 r k n c =
+  parts-6 : (r : Record) → r .kind ≡ 6 → C (typeChild (r .b)) → Parts N C r
+  parts-6 r k c =
       record {
-        name-4 = λ e. n;
         name-5 = λ e. absurd (omega arith);
-        name-6 = λ e. (n, c);
+        child-6 = λ e. c;
         child-7 = λ e. absurd (omega arith);
         child-8 = λ e. absurd (omega arith);
       }
@@ -74,9 +62,8 @@ module _ (N : ℕ → Type 0) (C : Child → Type 0) where
   parts-7 : (r : Record) → r .kind ≡ 7 → C (typeChild (r .a)) → Parts N C r
   parts-7 r k c =
       record {
-        name-4 = λ e. absurd (omega arith);
         name-5 = λ e. absurd (omega arith);
-        name-6 = λ e. absurd (omega arith);
+        child-6 = λ e. absurd (omega arith);
         child-7 = λ e. c;
         child-8 = λ e. absurd (omega arith);
       }
@@ -84,9 +71,8 @@ module _ (N : ℕ → Type 0) (C : Child → Type 0) where
   parts-8 : (r : Record) → r .kind ≡ 8 → C (typeChild (r .a)) → C (typeChild (r .b)) → Parts N C r
   parts-8 r k c d =
       record {
-        name-4 = λ e. absurd (omega arith);
         name-5 = λ e. absurd (omega arith);
-        name-6 = λ e. absurd (omega arith);
+        child-6 = λ e. absurd (omega arith);
         child-7 = λ e. c;
         child-8 = λ e. (c, d);
       }
@@ -102,11 +88,11 @@ module _ (N : ℕ → Type 0) (C : Child → Type 0) where
           (
             λ l h n c. no-parts _ (λ x y. omega arith),
             (
-              λ l h n c. parts-4 _ refl (n .0),
+              λ l h n c. no-parts _ (λ x y. omega arith),
               (
                 λ l h n c. parts-5 _ refl (n .0) (n .1 .0),
                 (
-                  λ l h n c. parts-6 _ refl (n .0) (c .0),
+                  λ l h n c. parts-6 _ refl (c .0),
                   (
                     λ l h n c. parts-7 _ refl (c .0),
                     (
@@ -146,17 +132,17 @@ module _ {bytes : List ℕ} {n : ℕ} (x : IsType bytes n) (r : Record) (at : r 
   unfolding read
   node-is = is
 
-  pub names-below : NamesBelow r
-  names-below =
+  pub leaf-names :
+      {scope : Scope} {ambiguous : List Bool} {generics : List ℕ} → Reads bytes scope ambiguous generics → LeafNames scope r
+  leaf-names {scope} known =
       record {
-        name-is = parts .name-4;
+        name-is = λ e. subst (λ r. r .a < scope .names) is (known .names-below .uses n (x .here) (rw is e));
         space-is = λ e. parts .name-5 e .0;
         pair-is = λ e. parts .name-5 e .1;
-        head-is = λ e. parts .name-6 e .0;
       }
 
   pub argument-is : r .kind ≡ 6 → IsType bytes (r .b)
-  argument-is e = child-is (parts .name-6 e .1)
+  argument-is e = child-is (parts .child-6 e)
 
   pub only-child-is : r .kind ≡ 7 → IsType bytes (r .a)
   only-child-is e = child-is (parts .child-7 e)

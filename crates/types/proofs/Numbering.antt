@@ -1,6 +1,6 @@
--- The array of numbers by name: each name of a list has its place in that list, and every other name POISON.
+-- The table of numbers by name: each name of a list has its place in that list, and every other name POISON.
 -- Assumes nothing.
-use Prim.Native.Nat.{ℕ, suc, _+_, _≤_, _<_}
+use Prim.Native.Nat.{ℕ, zero, suc, _+_, _≤_, _<_}
 use mathlib.Core.Bool.{Bool, true, false, cond, true≢false}
 use mathlib.Core.List.{List, [], _∷_, _++_, map}
 use mathlib.Core.Option.{some, none}
@@ -8,7 +8,7 @@ use mathlib.Core.Path.{_≡_, refl, sym, ap, ap₂, _∙_}
 use native.Mathlib.Decide.{ℕ-discrete}
 use native.Mathlib.Omega.{arith}
 use lib.Dec.{ltb, eqb}
-use lib.ListN.{length, getD, set, replicate, length-set, length-replicate, getD-replicate}
+use lib.ListN.{length, getD, set, replicate, length-set, length-replicate}
 use lib.Seq.{getD-set-same, getD-set-other}
 use borrow.Author.Tests.{eqb-true, lt-ltb, le-ltb, eq-eqb, ne-eqb}
 use Rattle.book.specs.Lists.{any, find, numberedFrom}
@@ -81,15 +81,27 @@ module _ (m : ℕ) where
   place-other a k [] other = rw (ne-eqb a m (λ e. other (sym e)))
   place-other a k (x ∷ l) other = ap (cond (eqb x m) k) (place-other a (suc k) l other)
 
--- the array holds the places of some names
-pub record Numbered (names numbers : List ℕ) : Type 0 where
-  pub long : length numbers ≡ 4096
-  pub are : (m : ℕ) → m < 4096 → getD numbers m 0 ≡ placeOf m 0 names
+-- every entry of a table that has one value is that value, and so is what is read past its end
+pub all-same : {A : Type 0} (size n : ℕ) (a : A) → getD (replicate size a) n a ≡ a
+all-same zero n a = refl
+all-same (suc size) zero a = refl
+all-same (suc size) (suc n) a = all-same size n a
 
-pub numbered-start : Numbered [] (replicate 4096 POISON)
-numbered-start = record { long = length-replicate 4096 POISON; are = λ m low. getD-replicate 4096 m POISON 0 low }
+-- an entry inside a table is read with any other value past its end
+pub inside-same : {A : Type 0} (l : List A) (n : ℕ) (d e : A) → n < length l → getD l n d ≡ getD l n e
+inside-same [] n d e less = absurd (omega arith)
+inside-same (x ∷ l) zero d e less = refl
+inside-same (x ∷ l) (suc n) d e less = inside-same l n d e (omega arith)
 
--- an array that says of each name what the numbered names say holds their places
+-- a table of this size holds the places of some names
+pub record Numbered (size : ℕ) (names numbers : List ℕ) : Type 0 where
+  pub long : length numbers ≡ size
+  pub are : (m : ℕ) → getD numbers m POISON ≡ placeOf m 0 names
+
+pub numbered-start : (size : ℕ) → Numbered size [] (replicate size POISON)
+numbered-start size = record { long = length-replicate size POISON; are = λ m. all-same size m POISON }
+
+-- a table that says of each name what the numbered names say holds their places
 same-number : (a b : ℕ) → cond (eqb a POISON) none (some a) ≡ cond (eqb b POISON) none (some b) → a ≡ b
 same-number a b e = go (eqb a POISON) (eqb b POISON) refl refl e
   where
@@ -100,29 +112,29 @@ same-number a b e = go (eqb a POISON) (eqb b POISON) refl refl e
     go false false p q e = cc
 
 pub numbered-by :
-    (names : List ℕ) {numbers : List ℕ} → length names ≤ POISON → length numbers ≡ 4096 →
-    ((m : ℕ) → m < 4096 → numberIn numbers m ≡ entry m (map (λ x. (x .1, x .0)) (numberedFrom 0 names))) → Numbered names numbers
+    {size : ℕ} (names : List ℕ) {numbers : List ℕ} → length names ≤ POISON → length numbers ≡ size →
+    ((m : ℕ) → numberIn numbers m ≡ entry m (map (λ x. (x .1, x .0)) (numberedFrom 0 names))) → Numbered size names numbers
 numbered-by names few long h = record {
   long = long;
-  are = λ m small. same-number _ _ (h m small ∙ sym (place-entry m 0 names (omega arith)));
+  are = λ m. same-number _ _ (h m ∙ sym (place-entry m 0 names (omega arith)));
 }
 
-module _ {names numbers : List ℕ} (h : Numbered names numbers) where
+module _ {size : ℕ} {names numbers : List ℕ} (h : Numbered size names numbers) where
   -- one name more is numbered
-  pub numbered-more : (a : ℕ) → a < 4096 → isIn a names ≡ false → Numbered (names ++ (a ∷ [])) (set numbers a (length names))
-  numbered-more a low new = record { long = length-set numbers a (length names) ∙ h .long; are = λ m small. go m small (ℕ-discrete m a) }
+  pub numbered-more : (a : ℕ) → a < size → isIn a names ≡ false → Numbered size (names ++ (a ∷ [])) (set numbers a (length names))
+  numbered-more a low new = record { long = length-set numbers a (length names) ∙ h .long; are = λ m. go m (ℕ-discrete m a) }
     where
-      go : (m : ℕ) → m < 4096 → Dec (m ≡ a) → getD (set numbers a (length names)) m 0 ≡ placeOf m 0 (names ++ (a ∷ []))
-      go m small (yes e) =
-          rw (e, getD-set-same numbers a (length names) 0 (omega (arith, h .long)), place-new a 0 names new) (omega arith)
-      go m small (no other) = getD-set-other numbers a m (length names) 0 other ∙ h .are m small ∙ sym (place-other m a 0 names other)
+      go : (m : ℕ) → Dec (m ≡ a) → getD (set numbers a (length names)) m POISON ≡ placeOf m 0 (names ++ (a ∷ []))
+      go m (yes e) =
+          rw (e, getD-set-same numbers a (length names) POISON (omega (arith, h .long)), place-new a 0 names new) (omega arith)
+      go m (no other) = getD-set-other numbers a m (length names) POISON other ∙ h .are m ∙ sym (place-other m a 0 names other)
 
   -- what it says of a name, if the names are not too many
-  module _ (few : length names ≤ POISON) (m : ℕ) (small : m < 4096) where
+  module _ (few : length names ≤ POISON) (m : ℕ) where
     pub number-is : numberIn numbers m ≡ entry m (map (λ x. (x .1, x .0)) (numberedFrom 0 names))
-    number-is = rw (h .are m small) (place-entry m 0 names (omega arith))
+    number-is = rw (h .are m) (place-entry m 0 names (omega arith))
 
-    pub number-below : (l r : List ℕ) → names ≡ l ++ r → isIn m l ≡ ltb (getD numbers m 0) (length l)
+    pub number-below : (l r : List ℕ) → names ≡ l ++ r → isIn m l ≡ ltb (getD numbers m POISON) (length l)
     number-below l r e =
         let few′ : 0 + length (l ++ r) ≤ POISON = omega (arith, ap length e) in
-        place-below m 0 l r few′ ∙ ap₂ ltb (ap (placeOf m 0) (sym e) ∙ sym (h .are m small)) (omega arith)
+        place-below m 0 l r few′ ∙ ap₂ ltb (ap (placeOf m 0) (sym e) ∙ sym (h .are m)) (omega arith)

@@ -7,7 +7,7 @@ use mathlib.Core.Option.{some, none}
 use mathlib.Core.Path.{_≡_, refl, sym, ap, _∙_}
 use native.Mathlib.Numerals.{add-one}
 use native.Mathlib.Omega.{arith}
-use lib.ListN.{length, drop, getD, set, length-append, length-map, List·getD-append}
+use lib.ListN.{length, drop, getD, set, length-append, length-drop, length-map, List·getD-append}
 use lib.Seq.{drop-cons, drop-at, set-append-seam}
 use borrow.Author.Tests.{eq-eqb, ne-eqb}
 use Rattle.record.specs.declared.Record.{Record}
@@ -21,6 +21,7 @@ use Rattle.book.proofs.Records.{at-map}
 use Rattle.types.specs.Resolved.{POISON, ownNumber}
 use Rattle.types.specs.Numbers.{parameters, genericAt, typeDeclarations, genericAliases, registerDeclarations}
 use Rattle.types.specs.Standing.{genericWord}
+use Rattle.types.specs.Below.{NamesBelow}
 use Rattle.types.specs.Registered.{IsAlias, Ambiguous, Typed, Registered}
 use Rattle.types.proofs.Numbering.{Numbered, numbered-by, number-is}
 use Rattle.types.proofs.Typing.{namesOf, numbered-next, declared-is}
@@ -41,18 +42,18 @@ fill-more words lent w less =
     ∙ sym (ap (λ k. (words ++ (w ∷ [])) ++ drop k lent) size ∙ append-assoc words (w ∷ []) (drop (suc k) lent))
 
 -- the records before n were looked at: the generic aliases among them are numbered behind the types, and listed
-pub record Registering (bytes : List ℕ) (n next types : ℕ) (lent generics numbers : List ℕ) : Type 0 where
+pub record Registering (bytes : List ℕ) (size n next types : ℕ) (lent generics numbers : List ℕ) : Type 0 where
   pub within : n ≤ recordCount bytes
   pub types-are : types ≡ length (typeDeclarations (read bytes))
   pub count : next ≡ types + length (genericsBelow (read bytes) n)
-  pub numbered : Numbered (namesOf (records bytes) (typeDeclarations (read bytes) ++ genericsBelow (read bytes) n)) numbers
-  pub long : length lent ≡ 1344
+  pub numbered : Numbered size (namesOf (records bytes) (typeDeclarations (read bytes) ++ genericsBelow (read bytes) n)) numbers
+  pub long : recordCount bytes ≤ length lent
   pub listed : generics ≡ fill (map (λ k. genericWord (genericAt (read bytes) k)) (genericsBelow (read bytes) n)) lent
 
 pub registering-start :
-    {bytes : List ℕ} {types : ℕ} {ambiguous : List Bool} {numbers generics : List ℕ} →
-    Readable bytes → Typed bytes types ambiguous numbers → length generics ≡ 1344 →
-    Registering bytes 0 types types generics generics numbers
+    {bytes : List ℕ} {size types : ℕ} {ambiguous : List Bool} {numbers generics : List ℕ} →
+    Readable bytes → Typed bytes size types ambiguous numbers → recordCount bytes ≤ length generics →
+    Registering bytes size 0 types types generics generics numbers
 unfolding read keep from
 registering-start {bytes} readable t long =
     let types = typeDeclarations (read bytes) in
@@ -67,8 +68,8 @@ registering-start {bytes} readable t long =
     }
 
 module _
-    {bytes : List ℕ} {n next types : ℕ} {lent generics numbers : List ℕ}
-    (readable : Readable bytes) (g : Registering bytes n next types lent generics numbers)
+    {bytes : List ℕ} {size n next types : ℕ} {lent generics numbers : List ℕ}
+    (readable : Readable bytes) (g : Registering bytes size n next types lent generics numbers)
   where
     abbrev book : Book
     book = read bytes
@@ -83,12 +84,24 @@ module _
     pub next-small : n < recordCount bytes → next - types < 1344
     next-small less = omega (arith, g .count, generics-length book n, readable .few-records)
 
+    -- the table of generic aliases is as long as it was, and has a place for it
+    pub generics-same : length generics ≡ length lent
+    generics-same =
+        let words : List ℕ = map (λ k. genericWord (genericAt book k)) (genericsBelow book n) in
+        let many : length words ≡ length (genericsBelow book n) = length-map (genericsBelow book n) (λ k. genericWord (genericAt book k)) in
+        rw (g .listed, length-append words (drop (length words) lent), length-drop (length words) lent)
+        (omega (arith, g .within, g .long, generics-length book n))
+
+    pub generics-room : n < recordCount bytes → next - types < length generics
+    generics-room less = omega (arith, generics-same, g .count, g .long, generics-length book n)
+
     -- all of them were
     pub registering-end :
-        {ambiguous : List Bool} {imports : Bool} → Ambiguous bytes ambiguous → imports ≡ wildcards bytes → recordCount bytes ≤ n →
-        Registered bytes (record { types = types; named = next; wildcards = imports }) ambiguous lent generics numbers
+        {names : ℕ} {ambiguous : List Bool} {imports : Bool} → Ambiguous bytes size ambiguous → NamesBelow bytes size → names ≡ size →
+        imports ≡ wildcards bytes → recordCount bytes ≤ n →
+        Registered bytes size (record { types = types; named = next; names = names; wildcards = imports }) ambiguous lent generics numbers
     unfolding typeDeclarations genericAliases numbersOf registerDeclarations ownNumber read
-    registering-end marked imported over =
+    registering-end marked below names-are imported over =
         let rs = records bytes in
         let (declared, l) : List ℕ × List ℕ = (typeDeclarations book, genericAliases book) in
         let word : ℕ → ℕ = λ k. genericWord (genericAt book k) in
@@ -96,9 +109,9 @@ module _
         let all : n ≡ length rs = omega (arith, g .within, readable .counted) in
         let same : genericsBelow book n ≡ l = ap (genericsBelow book) all in
         let listed : generics ≡ fill (map word l) lent = rw same at (g .listed) in
-        let numbered : Numbered (namesOf rs (declared ++ l)) numbers = rw same at (g .numbered) in
+        let numbered : Numbered size (namesOf rs (declared ++ l)) numbers = rw same at (g .numbered) in
         let count : next ≡ types + length l = g .count ∙ rw same in
-        let size : length (namesOf rs (declared ++ l)) ≡ next = rw (length-map, length-append) (omega (arith, g .types-are)) in
+        let many : length (namesOf rs (declared ++ l)) ≡ next = rw (length-map, length-append) (omega (arith, g .types-are)) in
         let few : next ≤ 1344 = omega (arith, g .types-are, few-declared readable) in
         record {
           reads = record {
@@ -107,18 +120,21 @@ module _
             named = count;
             few = few;
             wildcards-are = imported;
+            names-below = rw names-are below;
+            ambiguous-long = marked .long ∙ sym names-are;
             ambiguous-are = marked .marks;
+            generics-long = rw (listed, length-append (map word l) (drop (length (map word l)) lent), length-map l word) (omega arith);
             generics-are = λ i less.
                 rw (listed, List·getD-append (map word l) (drop (length (map word l)) lent) 0 i (rw length-map less))
                 (at-map word l i 0 0 less);
           };
+          names = names-are;
           ambiguous-are = marked;
           rest = rw (listed, length-map l word) (drop-at (map word l) (drop (length l) lent) (length l) (length-map l word));
-          next = sym size;
+          next = sym many;
           long = numbered .long;
           numbers-are = number-is numbered (omega arith);
-          declared-are = λ m low.
-              declared-is rs numbered (namesOf rs l) (map-append name declared l) (omega arith) m low ∙ rw (g .types-are);
+          declared-are = λ m. declared-is rs numbered (namesOf rs l) (map-append name declared l) (omega arith) m ∙ rw (g .types-are);
         }
 
     -- record n, which is r
@@ -130,7 +146,7 @@ module _
       unfolding read
       here = omega (arith, readable .counted)
 
-      skipped : genericsBelow book (suc n) ≡ genericsBelow book n → Registering bytes (n + 1) next types lent generics numbers
+      skipped : genericsBelow book (suc n) ≡ genericsBelow book n → Registering bytes size (n + 1) next types lent generics numbers
       skipped same =
           rw add-one
           record {
@@ -143,7 +159,7 @@ module _
           }
 
       -- it is no alias
-      pub registering-other : (r .kind ≡ 23 → ⊥) → Registering bytes (n + 1) next types lent generics numbers
+      pub registering-other : (r .kind ≡ 23 → ⊥) → Registering bytes size (n + 1) next types lent generics numbers
       registering-other other = skipped (generics-next book n false _ (ap (isKind 23) is ∙ ne-eqb (r .kind) 23 other) refl)
 
       module _ (kind : r .kind ≡ 23) where
@@ -162,15 +178,15 @@ module _
         high = omega (arith, alias .kind)
 
         -- it is a plain alias
-        pub registering-plain : none ≡ at (parameters book n) 0 → Registering bytes (n + 1) next types lent generics numbers
+        pub registering-plain : none ≡ at (parameters book n) 0 → Registering bytes size (n + 1) next types lent generics numbers
         registering-plain e = skipped (generics-next book n true false passes (generic-is book n e))
 
         -- it is a generic one
         pub registering-generic :
-            (p : ℕ) → some p ≡ at (parameters book n) 0 →
-            Registering bytes (n + 1) (next + 1) types lent (set generics (next - types) (65536 * p + r .b)) (set numbers (r .a) next)
+            (p : ℕ) → some p ≡ at (parameters book n) 0 → r .a < size →
+            Registering bytes size (n + 1) (next + 1) types lent (set generics (next - types) (65536 * p + r .b)) (set numbers (r .a) next)
         unfolding read
-        registering-generic p e =
+        registering-generic p e entered =
             let l = genericsBelow book n in
             let declared = typeDeclarations book ++ l in
             let word : ℕ → ℕ = λ k. genericWord (genericAt book k) in
@@ -180,7 +196,7 @@ module _
             let inside : length (map word l) < length lent =
             rw length-map (omega (arith, g .long, generics-length book n, readable .few-records)) in
             let before = others book n here (alias .kind) in
-            let numbered = numbered-next (records bytes) (readable .well-formed) here low high (g .numbered) before in
+            let numbered = numbered-next (records bytes) (readable .well-formed) here low high (rw is entered) (g .numbered) before in
             rw (add-one n)
             record {
               within = omega arith;

@@ -59,8 +59,8 @@ module _ {A : Type 0} (n : ℕ) where
   entry-new x l e = behind l (n, x) ∙ ap (λ o. orElse o (entry n ((n, x) ∷ []))) e ∙ one-entry n x true (eq-eqb n n refl)
 
 -- a number that is none, and one that is given
-none-there : (numbers : List ℕ) (n : ℕ) → getD numbers n 0 ≡ POISON → numberIn numbers n ≡ none
-none-there numbers n e = rw (eq-eqb (getD numbers n 0) POISON e)
+none-there : (numbers : List ℕ) (n : ℕ) → getD numbers n POISON ≡ POISON → numberIn numbers n ≡ none
+none-there numbers n e = rw (eq-eqb (getD numbers n POISON) POISON e)
 
 -- the pairs of one stub more
 pairs-more : (n : ℕ) (l : List ℕ) (p : ℕ) → pairsFrom n (l ++ (p ∷ [])) ≡ pairsFrom n l ++ pairsFrom (n + length l) (p ∷ [])
@@ -103,10 +103,10 @@ module _
   small = omega (arith, f .results-fit)
 
   pub with-stub :
-      (name : ℕ) → name < 4096 → getD (h .numbers) name 0 ≡ POISON →
+      (name : ℕ) → name < length (h .numbers) → getD (h .numbers) name POISON ≡ POISON →
       From bytes scope lent place aliases (oneNumber ctx) (held (set (h .numbers) name (ctx .next)) (h .pairs) (h .results) (h .diagnostics)) (withStub name k) s
   unfolding withStub ownNumber aliasOf
-  with-stub name less none-yet =
+  with-stub name inside none-yet =
       record {
         results-are = f .results-are;
         diagnostics-are = f .diagnostics-are;
@@ -120,32 +120,30 @@ module _
         next-from = omega (arith, f .next-from);
         next-few = omega arith;
         numbers-long = length-set (h .numbers) name (ctx .next) ∙ f .numbers-long;
-        numbers-are = λ n below. numbers n below (ℕ-discrete n name);
-        declared-are = λ n below. declared n below (ℕ-discrete n name);
+        numbers-are = λ n. numbers n (ℕ-discrete n name);
+        declared-are = λ n. declared n (ℕ-discrete n name);
         pairs-long = f .pairs-long;
         pairs-are = pairs;
         pairs-free = λ i from below. f .pairs-free i (omega arith) below;
+        aliases-long = f .aliases-long;
         aliases-are = f .aliases-are;
       }
     where
-      inside : name < length (h .numbers)
-      inside = omega (arith, f .numbers-long)
+      numbers : (n : ℕ) → Dec (n ≡ name) → numberIn (set (h .numbers) name (ctx .next)) n ≡ entry n (k .numbers ++ ((name, k .next) ∷ []))
+      numbers n (yes e) =
+          rw (e, getD-set-same (h .numbers) name (ctx .next) POISON inside, f .next-is, ne-eqb (k .next) POISON (λ q. omega (arith, small)))
+          (sym (entry-new name (k .next) (k .numbers) (sym (f .numbers-are name) ∙ none-there (h .numbers) name none-yet)))
+      numbers n (no other) =
+          rw (getD-set-other (h .numbers) name n (ctx .next) POISON other) (f .numbers-are n ∙ sym (entry-other n name (k .next) (k .numbers) other))
 
-      numbers : (n : ℕ) → n < 4096 → Dec (n ≡ name) → numberIn (set (h .numbers) name (ctx .next)) n ≡ entry n (k .numbers ++ ((name, k .next) ∷ []))
-      numbers n below (yes e) =
-          rw (e, getD-set-same (h .numbers) name (ctx .next) 0 inside, f .next-is, ne-eqb (k .next) POISON (λ q. omega (arith, small)))
-          (sym (entry-new name (k .next) (k .numbers) (sym (f .numbers-are name less) ∙ none-there (h .numbers) name none-yet)))
-      numbers n below (no other) =
-          rw (getD-set-other (h .numbers) name n (ctx .next) 0 other) (f .numbers-are n below ∙ sym (entry-other n name (k .next) (k .numbers) other))
-
-      declared : (n : ℕ) → n < 4096 → Dec (n ≡ name) → isDeclared (read bytes) n ≡ ltb (getD (set (h .numbers) name (ctx .next)) n 0) (scope .types)
-      declared n below (yes e) =
-          rw (e, getD-set-same (h .numbers) name (ctx .next) 0 inside)
-          (f .declared-are name less
+      declared : (n : ℕ) → Dec (n ≡ name) → isDeclared (read bytes) n ≡ ltb (getD (set (h .numbers) name (ctx .next)) n POISON) (scope .types)
+      declared n (yes e) =
+          rw (e, getD-set-same (h .numbers) name (ctx .next) POISON inside)
+          (f .declared-are name
           ∙ ap (λ x. ltb x (scope .types)) none-yet
           ∙ le-ltb POISON (scope .types) (omega arith)
           ∙ sym (le-ltb (ctx .next) (scope .types) (omega (arith, f .next-is, f .next-from))))
-      declared n below (no other) = rw (getD-set-other (h .numbers) name n (ctx .next) 0 other) (f .declared-are n below)
+      declared n (no other) = rw (getD-set-other (h .numbers) name n (ctx .next) POISON other) (f .declared-are n)
 
       pairs : k .pairs ≡ pairsFrom (scope .named) (take (suc (k .next) - scope .named) (h .pairs))
       pairs =
@@ -185,6 +183,7 @@ module _
         pairs-are = rw (f .next-is) pairs;
         pairs-free = λ i from below.
             getD-set-other (h .pairs) (ctx .next - scope .named) i w 0 (λ e. omega (arith, f .next-is, f .next-from)) ∙ f .pairs-free i (omega arith) below;
+        aliases-long = f .aliases-long;
         aliases-are = f .aliases-are;
       }
     where
@@ -259,7 +258,7 @@ module _
         rw path (ends (emitted-is .1) from)
 
     pub stub-given :
-        (name : ℕ) → name < 4096 → getD (h .numbers) name 0 ≡ POISON →
+        (name : ℕ) → name < length (h .numbers) → getD (h .numbers) name POISON ≡ POISON →
         Ends bytes scope lent place aliases (held (set (h .numbers) name (ctx .next)) (h .pairs) l (h .diagnostics)) (Root root (oneNumber behind)) (run (limitsOf lent) (stubStep name k) s)
     stub-given name less none-yet =
         given-out

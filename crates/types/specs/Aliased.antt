@@ -41,24 +41,24 @@ FinishesAlias r first root aliases ctx h x aliases′ h′ =
     From bytes scope lent place aliases ctx h k s →
     root ≡ t .root →
     StandsAt (s .results) first root (t .type) →
-    getD aliases (r .a) 0 ≡ POISON →
+    getD aliases (r .a) POISON ≡ POISON →
     Goes bytes scope lent place aliases′ h′ x (run (usedLimits (lent .results) (lent .diagnostics)) (finishAlias r t k) s)
 
 -- and the entries of other names stay
 abbrev pub SameBut : ℕ → List ℕ → List ℕ → Type 0
-SameBut name aliases aliases′ = (n : ℕ) → (n ≡ name → ⊥) → getD aliases′ n 0 ≡ getD aliases n 0
+SameBut name aliases aliases′ = (n : ℕ) → (n ≡ name → ⊥) → getD aliases′ n POISON ≡ getD aliases n POISON
 
 -- the alias at record n is lowered
 abbrev pub LowersAlias : List ℕ → Scope → ℕ → List ℕ → LowerCtx → Held → done.Lowered → List ℕ → Held → Type 0
 LowersAlias bytes scope n aliases ctx h x aliases′ h′ =
     (lent : Lent) (place : ℕ) (k : Names) (s : State) →
     From bytes scope lent place aliases ctx h k s →
-    getD aliases ((read bytes ! n) .a) 0 ≡ POISON →
+    getD aliases ((read bytes ! n) .a) POISON ≡ POISON →
     Goes bytes scope lent n aliases′ h′ x (run (usedLimits (lent .results) (lent .diagnostics)) (lowerAlias (read bytes) n k) s)
 
 -- the alias is not lowered yet, whichever of the plain ones it is
 abbrev pub Unlowered : List ℕ → List ℕ → Type 0
-Unlowered bytes aliases = (n : ℕ) → List·Memᴰ n (plainAliases (read bytes)) → getD aliases ((read bytes ! n) .a) 0 ≡ POISON
+Unlowered bytes aliases = (n : ℕ) → List·Memᴰ n (plainAliases (read bytes)) → getD aliases ((read bytes ! n) .a) POISON ≡ POISON
 
 -- all plain aliases are lowered, in book order
 abbrev pub LowersAliases : List ℕ → Scope → List ℕ → LowerCtx → Held → Part → List ℕ → Held → Type 0

@@ -7,6 +7,7 @@ pub mod Numbers
 pub mod Resolve
 pub mod Alias
 pub mod Records
+pub mod Below
 pub mod Standing
 pub mod Finds
 pub mod Steps

@@ -29,6 +29,7 @@ use Rattle.types.specs.Step.{Step, Resolved}
 use Rattle.types.specs.Numbers.{Generic, typeDeclarations, genericAliases, genericAt}
 use Rattle.types.specs.Resolve.{isDeclared, isAmbiguous}
 use Rattle.types.specs.Records.{StandsAt}
+use Rattle.types.specs.Below.{NamesBelow}
 
 -- rows 9 and 10, as the code says them
 unfoldable pub stopOf : stops.Stop → Stop
@@ -82,22 +83,25 @@ held numbers pairs results diagnostics =
 abbrev pub genericWord : Generic → ℕ
 genericWord g = g .target + 65536 * g .parameter
 
--- What is the same while a book is lowered: how many numbers 20 to 22 have, and they and generic aliases; the names that are ambiguous; and the
--- generic aliases
+-- What is the same while a book is lowered: how many numbers 20 to 22 have, and they and generic aliases; how many names the tables by name have
+-- an entry for; the names that are ambiguous; and the generic aliases
 pub record Reads (bytes : List ℕ) (scope : Scope) (ambiguous : List Bool) (generics : List ℕ) : Type 0 where
   pub readable : Readable bytes
   pub types : scope .types ≡ length (typeDeclarations (read bytes))
   pub named : scope .named ≡ scope .types + length (genericAliases (read bytes))
   pub few : scope .named ≤ 1344
   pub wildcards-are : scope .wildcards ≡ wildcards bytes
-  pub ambiguous-are : (n : ℕ) → n < 4096 → getD ambiguous n false ≡ isAmbiguous (read bytes) n
+  pub names-below : NamesBelow bytes (scope .names)
+  pub ambiguous-long : length ambiguous ≡ scope .names
+  pub ambiguous-are : (n : ℕ) → getD ambiguous n false ≡ isAmbiguous (read bytes) n
+  pub generics-long : length (genericAliases (read bytes)) ≤ length generics
   pub generics-are :
       (i : ℕ) → i < length (genericAliases (read bytes)) →
       getD generics i 0 ≡ genericWord (genericAt (read bytes) (getD (genericAliases (read bytes)) i 0))
 
--- the number of a name; POISON stands for none, since it is no name's own number
+-- the number of a name; POISON stands for none, since it is no name's own number, and names past the end of the table have none
 abbrev pub numberIn : List ℕ → ℕ → Option ℕ
-numberIn numbers n = cond (eqb (getD numbers n 0) POISON) none (some (getD numbers n 0))
+numberIn numbers n = cond (eqb (getD numbers n POISON) POISON) none (some (getD numbers n POISON))
 
 -- the pairs among the stubs that are numbered from n on: 65,536 times the namespace and the name, or POISON for a name that is no pair
 unfoldable pub pairsFrom : ℕ → List ℕ → List ((ℕ × ℕ) × ℕ)
@@ -123,13 +127,14 @@ pub record From
   pub next-is : ctx .next ≡ k .next
   pub next-from : scope .named ≤ k .next
   pub next-few : k .next ≤ scope .named + length (s .results)
-  pub numbers-long : length (h .numbers) ≡ 4096
-  pub numbers-are : (n : ℕ) → n < 4096 → numberIn (h .numbers) n ≡ ownNumber k n
-  pub declared-are : (n : ℕ) → n < 4096 → isDeclared (read bytes) n ≡ ltb (getD (h .numbers) n 0) (scope .types)
+  pub numbers-long : length (h .numbers) ≡ scope .names
+  pub numbers-are : (n : ℕ) → numberIn (h .numbers) n ≡ ownNumber k n
+  pub declared-are : (n : ℕ) → isDeclared (read bytes) n ≡ ltb (getD (h .numbers) n POISON) (scope .types)
   pub pairs-long : length (h .pairs) ≡ 2048
   pub pairs-are : k .pairs ≡ pairsFrom (scope .named) (take (k .next - scope .named) (h .pairs))
   pub pairs-free : (i : ℕ) → k .next - scope .named ≤ i → i < 2048 → getD (h .pairs) i 0 ≡ POISON
-  pub aliases-are : (n : ℕ) → n < 4096 → AliasIs (s .results) (getD aliases n 0) (aliasOf k n)
+  pub aliases-long : length aliases ≡ scope .names
+  pub aliases-are : (n : ℕ) → AliasIs (s .results) (getD aliases n POISON) (aliasOf k n)
 
 -- behind a refusal the slices hold some records, and past the used limits they are as lent
 pub record Left (lent : Lent) (h : Held) : Type 0 where

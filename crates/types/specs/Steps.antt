@@ -27,12 +27,11 @@ pub record IsType (bytes : List ℕ) (n : ℕ) : Type 0 where
   pub here : n < recordCount bytes
   pub of-group : isOf type (recordOf (records bytes) n) ≡ true
 
--- the names of a type record are below 4,096
-pub record NamesBelow (r : Record) : Type 0 where
-  pub name-is : r .kind ≡ 4 → r .a < 4096
+-- the names of a type record with no type below it: a name has an entry in the tables by name, and those of a pair are below 4,096
+pub record LeafNames (scope : Scope) (r : Record) : Type 0 where
+  pub name-is : r .kind ≡ 4 → r .a < scope .names
   pub space-is : r .kind ≡ 5 → r .a < 4096
   pub pair-is : r .kind ≡ 5 → r .b < 4096
-  pub head-is : r .kind ≡ 6 → r .a < 4096
 
 -- it has no type below it
 pub record IsLeaf (r : Record) : Type 0 where

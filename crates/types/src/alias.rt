@@ -3,6 +3,7 @@
 ghost use mathlib.Core.Path.{_≡_};
 ghost use mathlib.Core.List.{List};
 ghost use Prim.Native.Nat.{ℕ, _<_};
+ghost use lib.ListN.{length};
 ghost use Rattle.book.specs.Blocks.{recordCount};
 ghost use Rattle.book.specs.Outline.{read, _!_};
 ghost use Rattle.book.specs.Trees.{Readable};
@@ -11,9 +12,7 @@ ghost use Rattle.types.specs.Registered.{IsAlias};
 ghost use Rattle.types.specs.Aliased.{aliasRecord, isPlainAlias, FinishesAlias, SameBut, LowersAlias, Unlowered, LowersAliases};
 use crate::LowerCtx;
 use crate::Lowered;
-use crate::NAMES;
 use crate::Part;
-use crate::RECORDS;
 use crate::RESULTS;
 use crate::Resolved;
 use crate::Scope;
@@ -46,10 +45,10 @@ fn finish_alias(
     first: u16,
     root: u16,
     ctx: LowerCtx,
-    aliases: &mut [u32; NAMES],
+    aliases: &mut [u32],
     results: &mut [u8],
 ) -> Lowered
-    requires { ⌜ r .a < 4096 ⌝ }
+    requires { ⌜ r .a < length (now aliases) ⌝ }
     ensures { λ x. ⌜ ((numbers pairs diagnostics : List ℕ) →
         FinishesAlias r first root (now (aliases .entry)) ctx (held numbers pairs (now (results .entry)) diagnostics) x
         (now (aliases .exit)) (held numbers pairs (now (results .exit)) diagnostics)) ⌝ }
@@ -71,10 +70,10 @@ fn lower_alias(
     n: u16,
     scope: Scope,
     ctx: LowerCtx,
-    ambiguous: &[bool; NAMES],
-    aliases: &mut [u32; NAMES],
-    generics: &[u32; RECORDS],
-    numbers: &mut [u32; NAMES],
+    ambiguous: &[bool],
+    aliases: &mut [u32],
+    generics: &[u32],
+    numbers: &mut [u32],
     pairs: &mut [u32; RESULTS],
     results: &mut [u8],
     diagnostics: &mut [u8],
@@ -128,10 +127,10 @@ pub fn lower_aliases(
     count: u16,
     scope: Scope,
     ctx: LowerCtx,
-    ambiguous: &[bool; NAMES],
-    aliases: &mut [u32; NAMES],
-    generics: &[u32; RECORDS],
-    numbers: &mut [u32; NAMES],
+    ambiguous: &[bool],
+    aliases: &mut [u32],
+    generics: &[u32],
+    numbers: &mut [u32],
     pairs: &mut [u32; RESULTS],
     results: &mut [u8],
     diagnostics: &mut [u8],

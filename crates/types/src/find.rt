@@ -1,12 +1,12 @@
 // Lookup of names, pairs and generic heads.
 
 ghost use mathlib.Core.Path.{_≡_};
-ghost use mathlib.Core.Bool.{cond};
+ghost use mathlib.Core.Bool.{false, cond};
 ghost use mathlib.Core.List.{List};
 ghost use mathlib.Core.Option.{Option, some, none};
-ghost use Prim.Native.Nat.{ℕ, _≤_, _<_};
+ghost use Prim.Native.Nat.{ℕ, _+_, _≤_, _<_};
 ghost use lib.Dec.{eqb};
-ghost use lib.ListN.{length};
+ghost use lib.ListN.{length, getD};
 ghost use Rattle.record.specs.declared.Record.{Record};
 ghost use Rattle.record.specs.Write.{withRecords};
 ghost use Rattle.book.specs.Lists.{All};
@@ -19,9 +19,7 @@ ghost use Rattle.types.specs.Finds.{numberOf, knownOr, Numbered, Finds, 
 ghost use Rattle.types.specs.declared.Scope.{Scope};
 ghost use mathlib.Core.Bool.{Bool};
 use crate::LowerCtx;
-use crate::NAMES;
 use crate::POISON_TYPE_ID;
-use crate::RECORDS;
 use crate::RESULTS;
 use crate::Scope;
 use record::type_id::TypeId;
@@ -47,6 +45,26 @@ pub enum Head {
     Alias { parameter: u16, target: u16 },
     NoAlias,
     NoNumber,
+}
+
+// The entry of a name in a table by name; POISON for a name past its end.
+fn entry(table: &[u32], name: u16) -> u32
+    ensures { λ r. ⌜ r ≡ getD (now (table .entry)) name POISON ⌝ }
+{
+    let n = name as usize;
+    if n < table.len() {
+        table[n]
+    } else {
+        POISON_TYPE_ID
+    }
+}
+
+// Whether a name is marked in a table by name; none is past its end.
+fn is_marked(table: &[bool], name: u16) -> bool
+    ensures { λ r. ⌜ r ≡ getD (now (table .entry)) name false ⌝ }
+{
+    let n = name as usize;
+    if n < table.len() { table[n] } else { false }
 }
 
 // The number in an entry of a table, where POISON stands for none.
@@ -77,23 +95,16 @@ fn alias_number(entry: u32, results: &[u8]) -> Number
 }
 
 // The number of a name: its own, or that of a plain alias to one.
-pub(crate) fn lookup(
-    name: u16,
-    aliases: &[u32; NAMES],
-    numbers: &[u32; NAMES],
-    results: &[u8],
-) -> Number
-    requires { ⌜ name < 4096 ⌝ }
+pub(crate) fn lookup(name: u16, aliases: &[u32], numbers: &[u32], results: &[u8]) -> Number
     ensures { λ r. ⌜ ((bytes : List ℕ) (scope : Scope) (ctx : LowerCtx) (pairs diagnostics : List ℕ) →
         Sees bytes scope (now (aliases .entry)) ctx (held (now (numbers .entry)) pairs (now (results .entry)) diagnostics)
         (λ k s. numberOf r ≡ lookup k name)) ⌝ }
 {
-    let n = name as usize;
-    let own = number_in(numbers[n]);
+    let own = number_in(entry(numbers, name));
     let Number::Nothing = own else {
         return own;
     };
-    alias_number(aliases[n], results)
+    alias_number(entry(aliases, name), results)
 }
 
 // The number of a pair, among those of the stubs.
@@ -136,29 +147,27 @@ fn known_or(number: Number, other: Found) -> Found
 pub(crate) fn find_name(
     name: u16,
     scope: Scope,
-    ambiguous: &[bool; NAMES],
-    aliases: &[u32; NAMES],
-    numbers: &[u32; NAMES],
+    ambiguous: &[bool],
+    aliases: &[u32],
+    numbers: &[u32],
 ) -> Found
-    requires { ⌜ name < 4096 ⌝ }
     ensures { λ r. ⌜ ((bytes generics : List ℕ) (ctx : LowerCtx) (pairs results diagnostics : List ℕ) →
         Reads bytes scope (now (ambiguous .entry)) generics →
         Sees bytes scope (now (aliases .entry)) ctx (held (now (numbers .entry)) pairs results diagnostics)
         (λ k s. Finds (s .results) r (findName (read bytes) name k))) ⌝ }
 {
-    let n = name as usize;
-    let entry = aliases[n];
-    if entry != POISON_TYPE_ID {
+    let alias = entry(aliases, name);
+    if alias != POISON_TYPE_ID {
         return Found::Alias {
-            first: (entry % 0x1_0000) as u16,
-            root: (entry / 0x1_0000 % 0x1_0000) as u16,
+            first: (alias % 0x1_0000) as u16,
+            root: (alias / 0x1_0000 % 0x1_0000) as u16,
         };
     }
-    let own = numbers[n];
+    let own = entry(numbers, name);
     if own < scope.types {
         return Found::Known(TypeId(own));
     }
-    if ambiguous[n] {
+    if is_marked(ambiguous, name) {
         return Found::Unresolved(0);
     }
     if scope.wildcards {
@@ -172,13 +181,12 @@ pub(crate) fn find_name(
 pub(crate) fn find_head(
     name: u16,
     scope: Scope,
-    aliases: &[u32; NAMES],
-    generics: &[u32; RECORDS],
-    numbers: &[u32; NAMES],
+    aliases: &[u32],
+    generics: &[u32],
+    numbers: &[u32],
     results: &[u8],
 ) -> Head
-    requires { ⌜ name < 4096 ⌝ }
-    requires { ⌜ scope .named ≤ 1344 ⌝ }
+    requires { ⌜ scope .named ≤ scope .types + length (now generics) ⌝ }
     ensures { λ r. ⌜ ((bytes : List ℕ) (ambiguous : List Bool) (ctx : LowerCtx) (pairs diagnostics : List ℕ) →
         Reads bytes scope ambiguous (now (generics .entry)) →
         Sees bytes scope (now (aliases .entry)) ctx (held (now (numbers .entry)) pairs (now (results .entry)) diagnostics)

@@ -3,7 +3,7 @@
 ghost use mathlib.Core.Path.{_≡_};
 ghost use mathlib.Core.List.{List};
 ghost use Prim.Native.Nat.{ℕ, _<_};
-ghost use lib.ListN.{getD};
+ghost use lib.ListN.{length, getD};
 ghost use Rattle.record.specs.declared.Record.{Record};
 ghost use Rattle.record.specs.declared.Span.{Span};
 ghost use Rattle.book.specs.Outline.{read};
@@ -12,10 +12,9 @@ ghost use Rattle.types.specs.Resolved.{POISON};
 ghost use Rattle.types.specs.Step.{overOne};
 ghost use Rattle.types.specs.Resolve.{typeExpr, resolveName, resolveQualified};
 ghost use Rattle.types.specs.Standing.{oneNumber, held, Reads, Resolves};
-ghost use Rattle.types.specs.Steps.{stubStep, pairStep, leafStep, Follows, FollowsTwo, NamesBelow, IsLeaf, plainRecord};
+ghost use Rattle.types.specs.Steps.{stubStep, pairStep, leafStep, Follows, FollowsTwo, LeafNames, IsLeaf, plainRecord};
 ghost use Rattle.types.specs.Finds.{Numbered, StandsSo};
 use crate::LowerCtx;
-use crate::NAMES;
 use crate::RESULTS;
 use crate::Resolved;
 use crate::Scope;
@@ -59,12 +58,12 @@ fn make_stub(
     name: u16,
     scope: Scope,
     ctx: LowerCtx,
-    numbers: &mut [u32; NAMES],
+    numbers: &mut [u32],
     results: &mut [u8],
 ) -> Resolved
-    requires { ⌜ (name < 4096) × Numbered scope ctx ⌝ }
+    requires { ⌜ (name < length (now numbers)) × Numbered scope ctx ⌝ }
     ensures { λ r. ⌜ ((bytes aliases pairs diagnostics : List ℕ) →
-        getD (now (numbers .entry)) name 0 ≡ POISON →
+        getD (now (numbers .entry)) name POISON ≡ POISON →
         Resolves bytes scope aliases ctx (held (now (numbers .entry)) pairs (now (results .entry)) diagnostics) (stubStep name) r
         (held (now (numbers .exit)) pairs (now (results .exit)) diagnostics)) ⌝ }
 {
@@ -106,13 +105,13 @@ pub(crate) fn resolve_name(
     span: Span,
     scope: Scope,
     ctx: LowerCtx,
-    ambiguous: &[bool; NAMES],
-    aliases: &[u32; NAMES],
-    numbers: &mut [u32; NAMES],
+    ambiguous: &[bool],
+    aliases: &[u32],
+    numbers: &mut [u32],
     results: &mut [u8],
     diagnostics: &mut [u8],
 ) -> Resolved
-    requires { ⌜ (name < 4096) × Numbered scope ctx ⌝ }
+    requires { ⌜ (name < scope .names) × Numbered scope ctx ⌝ }
     requires { ⌜ StandsSo scope (now ambiguous) (now aliases) ctx (now numbers) (now results) (now diagnostics) ⌝ }
     ensures { λ r. ⌜ ((bytes generics pairs : List ℕ) → Reads bytes scope (now (ambiguous .entry)) generics →
         Resolves bytes scope (now (aliases .entry)) ctx (held (now (numbers .entry)) pairs (now (results .entry)) (now (diagnostics .entry)))
@@ -134,8 +133,8 @@ pub(crate) fn resolve_qualified(
     span: Span,
     scope: Scope,
     ctx: LowerCtx,
-    aliases: &[u32; NAMES],
-    numbers: &[u32; NAMES],
+    aliases: &[u32],
+    numbers: &[u32],
     pairs: &mut [u32; RESULTS],
     results: &mut [u8],
     diagnostics: &mut [u8],
@@ -162,14 +161,14 @@ pub(crate) fn resolve_leaf(
     span: Span,
     scope: Scope,
     ctx: LowerCtx,
-    ambiguous: &[bool; NAMES],
-    aliases: &[u32; NAMES],
-    numbers: &mut [u32; NAMES],
+    ambiguous: &[bool],
+    aliases: &[u32],
+    numbers: &mut [u32],
     pairs: &mut [u32; RESULTS],
     results: &mut [u8],
     diagnostics: &mut [u8],
 ) -> Resolved
-    requires { ⌜ NamesBelow r × Numbered scope ctx ⌝ }
+    requires { ⌜ LeafNames scope r × Numbered scope ctx ⌝ }
     requires { ⌜ StandsSo scope (now ambiguous) (now aliases) ctx (now numbers) (now results) (now diagnostics) ⌝ }
     ensures { λ x. ⌜ ((bytes generics : List ℕ) → Reads bytes scope (now (ambiguous .entry)) generics → IsLeaf r →
         Resolves bytes scope (now (aliases .entry)) ctx

@@ -31,10 +31,11 @@ pub struct LowerCtx {
 }
 
 // What is the same for a whole book: how many numbers messages, unions and newtypes have, and they and generic aliases;
-// whether there are wildcard imports.
+// how many names the tables by name have an entry for; whether there are wildcard imports.
 pub struct Scope {
     pub types: u32,
     pub named: u32,
+    pub names: u32,
     pub wildcards: bool,
 }
 

@@ -1,18 +1,15 @@
 // Numbers of declarations: messages, unions and newtypes first, then generic aliases.
 
 ghost use mathlib.Core.Path.{_≡_};
-ghost use mathlib.Core.Bool.{false};
-ghost use Prim.Native.Nat.{_<_};
-ghost use lib.ListN.{length, replicate};
+ghost use Prim.Native.Nat.{_≤_};
+ghost use lib.ListN.{length};
 ghost use Rattle.book.specs.Lists.{at};
-ghost use Rattle.book.specs.Blocks.{recordCount, wildcards};
+ghost use Rattle.book.specs.Blocks.{recordCount, records, wildcards};
 ghost use Rattle.book.specs.Outline.{read};
 ghost use Rattle.book.specs.Trees.{Readable};
-ghost use Rattle.types.specs.Resolved.{POISON};
 ghost use Rattle.types.specs.Numbers.{parameters};
-ghost use Rattle.types.specs.Registered.{parameterOf, IsAlias, Typed, Registered};
-use crate::NAMES;
-use crate::RECORDS;
+ghost use Rattle.types.specs.Below.{namesBelow};
+ghost use Rattle.types.specs.Registered.{parameterOf, IsAlias, Clear, Typed, Registered};
 use crate::Scope;
 
 // The name of a type parameter, if there is one.
@@ -41,16 +38,30 @@ pub(crate) fn parameter_of(book: &[u8], count: u16, n: u16) -> Parameter
     Parameter::Nothing
 }
 
-// Numbers messages, unions and newtypes from 0, and marks the names that are ambiguous. How many numbers there are.
-fn register_types(
-    book: &[u8],
-    count: u16,
-    ambiguous: &mut [bool; NAMES],
-    numbers: &mut [u32; NAMES],
-) -> u32
+// Whether the names that the tables by name have an entry for are below n.
+pub fn names_below(book: &[u8], count: u16, n: u16) -> bool
     requires { ⌜ Readable (now book) × (count ≡ recordCount (now book)) ⌝ }
-    requires { ⌜ (now ambiguous ≡ replicate 4096 false) × (now numbers ≡ replicate 4096 POISON) ⌝ }
-    ensures { λ r. ⌜ Typed (now (book .entry)) r (now (ambiguous .exit)) (now (numbers .exit)) ⌝ }
+    ensures { λ r. ⌜ r ≡ namesBelow n (records (now (book .entry))) ⌝ }
+{
+    let mut m: u16 = 0;
+    while m < count {
+        let kind = record::kind_at(book, m);
+        if (kind == 4) | (20 <= kind) & (kind <= 25) {
+            let r = record::record_at(book, m);
+            if n <= r.a {
+                return false;
+            }
+        }
+        m += 1;
+    }
+    true
+}
+
+// Numbers messages, unions and newtypes from 0, and marks the names that are ambiguous. How many numbers there are.
+fn register_types(book: &[u8], count: u16, ambiguous: &mut [bool], numbers: &mut [u32]) -> u32
+    requires { ⌜ Readable (now book) × (count ≡ recordCount (now book)) ⌝ }
+    requires { ⌜ Clear (now book) (now ambiguous) (now numbers) ⌝ }
+    ensures { λ r. ⌜ Typed (now (book .entry)) (length (now (numbers .entry))) r (now (ambiguous .exit)) (now (numbers .exit)) ⌝ }
 {
     let mut next: u32 = 0;
     let mut n: u16 = 0;
@@ -80,13 +91,14 @@ pub fn register_declarations(
     book: &[u8],
     count: u16,
     imports: bool,
-    ambiguous: &mut [bool; NAMES],
-    generics: &mut [u32; RECORDS],
-    numbers: &mut [u32; NAMES],
+    ambiguous: &mut [bool],
+    generics: &mut [u32],
+    numbers: &mut [u32],
 ) -> Scope
     requires { ⌜ Readable (now book) × (count ≡ recordCount (now book)) × (imports ≡ wildcards (now book)) ⌝ }
-    requires { ⌜ (now ambiguous ≡ replicate 4096 false) × (now numbers ≡ replicate 4096 POISON) × (length (now generics) ≡ 1344) ⌝ }
-    ensures { λ r. ⌜ Registered (now (book .entry)) r (now (ambiguous .exit)) (now (generics .entry)) (now (generics .exit)) (now (numbers .exit)) ⌝ }
+    requires { ⌜ Clear (now book) (now ambiguous) (now numbers) × (length (now numbers) ≤ 4096) × (count ≤ length (now generics)) ⌝ }
+    ensures { λ r. ⌜ Registered (now (book .entry)) (length (now (numbers .entry))) r (now (ambiguous .exit)) (now (generics .entry))
+        (now (generics .exit)) (now (numbers .exit)) ⌝ }
 {
     let types = register_types(book, count, ambiguous, numbers);
     let mut next = types;
@@ -107,6 +119,7 @@ pub fn register_declarations(
     Scope {
         types,
         named: next,
+        names: numbers.len() as u32,
         wildcards: imports,
     }
 }

@@ -7,8 +7,6 @@ ghost use Rattle.types.specs.Resolve.{resolveType, resolveTypeExpr, reso
 ghost use Rattle.types.specs.Standing.{held, Reads, Stands, Resolves};
 ghost use Rattle.types.specs.Steps.{IsType, substitution};
 use crate::LowerCtx;
-use crate::NAMES;
-use crate::RECORDS;
 use crate::RESULTS;
 use crate::Resolved;
 use crate::Scope;
@@ -38,10 +36,10 @@ pub(crate) fn resolve_type_expr(
     span: Span,
     scope: Scope,
     ctx: LowerCtx,
-    ambiguous: &[bool; NAMES],
-    aliases: &[u32; NAMES],
-    generics: &[u32; RECORDS],
-    numbers: &mut [u32; NAMES],
+    ambiguous: &[bool],
+    aliases: &[u32],
+    generics: &[u32],
+    numbers: &mut [u32],
     pairs: &mut [u32; RESULTS],
     results: &mut [u8],
     diagnostics: &mut [u8],
@@ -162,10 +160,10 @@ fn resolve_type_expr_with_substitution(
     span: Span,
     scope: Scope,
     ctx: LowerCtx,
-    ambiguous: &[bool; NAMES],
-    aliases: &[u32; NAMES],
-    generics: &[u32; RECORDS],
-    numbers: &mut [u32; NAMES],
+    ambiguous: &[bool],
+    aliases: &[u32],
+    generics: &[u32],
+    numbers: &mut [u32],
     pairs: &mut [u32; RESULTS],
     results: &mut [u8],
     diagnostics: &mut [u8],
@@ -307,10 +305,10 @@ pub fn resolve_type(
     n: u16,
     scope: Scope,
     ctx: LowerCtx,
-    ambiguous: &[bool; NAMES],
-    aliases: &[u32; NAMES],
-    generics: &[u32; RECORDS],
-    numbers: &mut [u32; NAMES],
+    ambiguous: &[bool],
+    aliases: &[u32],
+    generics: &[u32],
+    numbers: &mut [u32],
     pairs: &mut [u32; RESULTS],
     results: &mut [u8],
     diagnostics: &mut [u8],

@@ -23,6 +23,7 @@ abbrev Inv-loop : tie.InvT-loop
 Inv-loop book count scope ambiguous aliases generics numbers₀ pairs₀ results₀ diagnostics₀ behind₀ n₀ numbers pairs results diagnostics behind n =
     GoesAlong book scope aliases (lowerDecl (read book)) (typeDeclarations (read book))
     behind₀ (held numbers₀ pairs₀ results₀ diagnostics₀) behind (held numbers pairs results diagnostics) (typesFrom (read book) n)
+    × (length numbers ≡ length numbers₀)
     × (length results ≡ length results₀)
     × (length diagnostics ≡ length diagnostics₀)
 
@@ -31,27 +32,27 @@ abbrev μ-loop : tie.MeasureT-loop
     count - n
 
 loop-holds : tie.Need-loop-holds Inv-loop μ-loop
-loop-holds c = (along-other along-start (types-all (read (now (c .before .before .before .args .book)))), refl, refl)
+loop-holds c = (along-other along-start (types-all (read (now (c .before .before .before .before .before .before .before .args .book)))), refl, refl, refl)
 
 -- in a turn of the loop
 module _ (c : tie.After-kind-at Inv-loop μ-loop) where
-  readable : Readable (now (c .before .before .before .before .before .before .args .book))
-  readable = c .before .before .before .before .before .before .pre .1 .0 .readable
+  readable : Readable (now (c .before .before .before .before .before .before .before .before .before .before .args .book))
+  readable = c .before .before .before .before .before .before .before .before .before .before .pre .1 .0 .readable
 
-  less : c .before .before .loop .n < recordCount (now (c .before .before .before .before .before .before .args .book))
+  less : c .before .before .loop .n < recordCount (now (c .before .before .before .before .before .before .before .before .before .before .args .book))
   less = omega arith
 
 lower-decl-requires : tie.Need-lower-decl-requires Inv-loop μ-loop
 lower-decl-requires c κs =
     let p = c .before .before .before .before .before in
     let l = p .before .before in
-    let pre = l .before .before .before .before .pre in
+    let pre = l .before .before .before .before .before .before .before .before .pre in
     ((its-decl (readable p) (less p) refl (rw (p .kind-at .ensures) at (c .before .before .before .before .if1 .taken)), pre .0), (pre .1 .0, along-stands (l .loop .inv .0) (pre .1 .1)))
 
 returns : tie.Need-returns Inv-loop μ-loop
 unfolding lowerBodies
 returns c =
-    let d = c .before .before .before .before .before .before .before in
+    let d = c .before .before .before .before .before .before .before .before .before in
     let i = d .before .before .before .before .before in
     let p = i .before in
     let one = types-next (readable p) (less p) refl (rw (p .kind-at .ensures) at (i .if1 .taken)) in
@@ -63,11 +64,12 @@ loop-again c =
     let l = p .before .before in
     ⊎-elim
     (λ w.
-    rw (w .13, w .14, w .15, w .16, w .17) (
+    rw (w .15, w .16, w .17, w .18, w .19) (
       along-done
           (along-other (l .loop .inv .0)
           (types-next (readable p) (less p) refl (rw (p .kind-at .ensures) at (w .0 .taken))))
-          (w .5 .ensures) _ (w .11 .given .1),
+          (w .5 .ensures) _ (w .13 .given .1),
+      search needs,
       search needs,
       search needs,
     ))
@@ -77,6 +79,7 @@ loop-again c =
           (types-next (readable p) (less p) refl (rw (p .kind-at .ensures) at (w .0 .left))),
       l .loop .inv .1,
       l .loop .inv .2,
+      l .loop .inv .3,
     ))
     (c .if1 .came)
 
@@ -84,7 +87,7 @@ returns-2 : tie.Need-returns-2 Inv-loop μ-loop
 unfolding lowerBodies
 returns-2 c =
     let l = c .before in
-    let pre = l .before .before .before .before .pre in
+    let pre = l .before .before .before .before .before .before .before .before .pre in
     along-end (along-other (l .loop .inv .0) (types-end (pre .1 .0 .readable) (omega arith)))
 
 pub lower-bodies-spec : {M : Type 1} → statement M
@@ -100,10 +103,12 @@ lower-bodies-spec =
     (λ c. search needs)
     (λ c. search needs)
     (λ c. search needs)
+    (λ c. search needs)
     returns
     (λ c. search needs)
     (λ c. search needs)
     loop-again
+    (λ c. search needs)
     (λ c. search needs)
     (λ c. search needs)
     returns-2)

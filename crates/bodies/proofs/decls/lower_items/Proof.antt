@@ -23,6 +23,7 @@ abbrev Inv-loop : tie.InvT-loop
 Inv-loop book count n delta scope ambiguous aliases generics numbers₀ pairs₀ results₀ diagnostics₀ behind₀ m₀ numbers pairs results diagnostics behind m =
     GoesAlong book scope aliases (lowerItem (read book) delta) (items (read book) n)
     behind₀ (held numbers₀ pairs₀ results₀ diagnostics₀) behind (held numbers pairs results diagnostics) (itemsFrom (read book) m)
+    × (length numbers ≡ length numbers₀)
     × (length results ≡ length results₀)
     × (length diagnostics ≡ length diagnostics₀)
 
@@ -31,17 +32,17 @@ abbrev μ-loop : tie.MeasureT-loop
     count - m
 
 add-m : tie.Need-add-m Inv-loop μ-loop
-add-m c = omega (arith, c .before .before .before .pre .0 .0 .here)
+add-m c = omega (arith, c .before .before .before .before .before .before .before .pre .0 .0 .here)
 
 loop-holds : tie.Need-loop-holds Inv-loop μ-loop
-loop-holds c = let s = c .before .before .before in (along-other along-start (items-all (read (now (s .args .book))) (s .args .n)), refl, refl)
+loop-holds c = let s = c .before .before .before .before .before .before .before in (along-other along-start (items-all (read (now (s .args .book))) (s .args .n)), refl, refl, refl)
 
 -- in a turn of the loop
 module _ (c : tie.After-kind-at Inv-loop μ-loop) where
-  readable : Readable (now (c .before .before .before .before .before .before .args .book))
-  readable = c .before .before .before .before .before .before .pre .0 .0 .readable
+  readable : Readable (now (c .before .before .before .before .before .before .before .before .before .before .args .book))
+  readable = c .before .before .before .before .before .before .before .before .before .before .pre .0 .0 .readable
 
-  less : c .before .before .loop .m < recordCount (now (c .before .before .before .before .before .before .args .book))
+  less : c .before .before .loop .m < recordCount (now (c .before .before .before .before .before .before .before .before .before .before .args .book))
   less = omega arith
 
 returns : tie.Need-returns Inv-loop μ-loop
@@ -54,25 +55,28 @@ lower-item-requires c κs =
     let i = c .before .before .before .before in
     let p = i .before .before in
     let l = p .before .before in
-    let pre = l .before .before .before .before .pre in
+    let pre = l .before .before .before .before .before .before .before .before .pre in
     ((its-item (readable p) (less p) refl (rw (p .kind-at .ensures) at (i .if2 .taken)), pre .0 .1), (pre .1 .0, along-stands (l .loop .inv .0) (pre .1 .1)))
 
-same-length-3 : tie.Need-same-length-3 Inv-loop μ-loop
-same-length-3 c = c .before .before .before .before .before .before .results .given ∙ c .before .before .before .before .before .before .before .before .before .before .before .before .before .before .before .before .loop .inv .1
-
 same-length-4 : tie.Need-same-length-4 Inv-loop μ-loop
-same-length-4 c = c .before .before .before .before .diagnostics .given ∙ c .before .before .before .before .before .before .before .before .before .before .before .before .before .before .before .before .loop .inv .2
+same-length-4 c = c .before .before .before .before .before .before .before .before .numbers .given ∙ c .before .before .before .before .before .before .before .before .before .before .before .before .before .before .before .before .before .before .loop .inv .1
+
+same-length-5 : tie.Need-same-length-5 Inv-loop μ-loop
+same-length-5 c = c .before .before .before .before .before .before .results .given ∙ c .before .before .before .before .before .before .before .before .before .before .before .before .before .before .before .before .before .before .loop .inv .2
+
+same-length-6 : tie.Need-same-length-6 Inv-loop μ-loop
+same-length-6 c = c .before .before .before .before .diagnostics .given ∙ c .before .before .before .before .before .before .before .before .before .before .before .before .before .before .before .before .before .before .loop .inv .3
 
 returns-2 : tie.Need-returns-2 Inv-loop μ-loop
 returns-2 c =
-    let d = c .before .before .before .before .before .before .before in
+    let d = c .before .before .before .before .before .before .before .before .before in
     let i = d .before .before .before .before .before in
     let p = i .before .before in
     let one = items-next (readable p) (less p) refl (rw (p .kind-at .ensures) at (i .before .if1 .left)) (rw (p .kind-at .ensures) at (i .if2 .taken)) in
     along-refused (along-other (p .before .before .loop .inv .0) one) (part-refused _ (d .lower-item .ensures) _ (c .before .lowered2 .given .1)) _ _ refl
 
 add-m-2 : tie.Need-add-m-2 Inv-loop μ-loop
-add-m-2 c = omega (arith, c .before .before .before .loop-test .taken, c .before .before .before .before .before .before .before .before .fits .count)
+add-m-2 c = omega (arith, c .before .before .before .loop-test .taken, c .before .before .before .before .before .before .before .before .before .before .before .before .fits .count)
 
 loop-less : tie.Need-loop-less Inv-loop μ-loop
 loop-less c = omega (arith, c .before .before .before .loop-test .taken)
@@ -83,10 +87,11 @@ loop-again c =
     let l = p .before .before in
     ⊎-elim
     (λ w.
-    rw (w .13, w .14, w .15, w .16, w .17) (
+    rw (w .15, w .16, w .17, w .18, w .19) (
       along-done
           (along-other (l .loop .inv .0) (items-next (readable p) (less p) refl (rw (p .kind-at .ensures) at (c .before .if1 .left)) (rw (p .kind-at .ensures) at (w .0 .taken))))
-          (part-lowered _ (w .5 .ensures) _ (w .11 .given .1)) _ refl,
+          (part-lowered _ (w .5 .ensures) _ (w .13 .given .1)) _ refl,
+      search needs,
       search needs,
       search needs,
     ))
@@ -95,13 +100,14 @@ loop-again c =
       along-other (l .loop .inv .0) (items-next (readable p) (less p) refl (rw (p .kind-at .ensures) at (c .before .if1 .left)) (rw (p .kind-at .ensures) at (w .0 .left))),
       l .loop .inv .1,
       l .loop .inv .2,
+      l .loop .inv .3,
     ))
     (c .if2 .came)
 
 returns-3 : tie.Need-returns-3 Inv-loop μ-loop
 returns-3 c =
     let l = c .before in
-    along-end (along-other (l .loop .inv .0) (items-end (l .before .before .before .before .pre .0 .0 .readable) (omega arith)))
+    along-end (along-other (l .loop .inv .0) (items-end (l .before .before .before .before .before .before .before .before .pre .0 .0 .readable) (omega arith)))
 
 pub lower-items-spec : {M : Type 1} → statement M
 lower-items-spec =
@@ -114,16 +120,19 @@ lower-items-spec =
     (λ c κs. search needs)
     (λ c. search needs)
     (λ c. search needs)
+    (λ c. search needs)
     returns
     lower-item-requires
     (λ c. search needs)
     (λ c. search needs)
-    same-length-3
     same-length-4
+    same-length-5
+    same-length-6
     returns-2
     add-m-2
     loop-less
     loop-again
+    (λ c. search needs)
     (λ c. search needs)
     (λ c. search needs)
     returns-3)

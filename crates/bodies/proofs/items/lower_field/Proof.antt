@@ -8,23 +8,23 @@ use Rattle.bodies.proofs.items.lower_field.Tie as tie
 resolve-type-requires : tie.Need-resolve-type-requires
 resolve-type-requires c κs =
     let p = c .before .before .before .before in
-    let pre = p .before .before .before .before .pre in
+    let pre = p .before .before .before .before .before .before .before .before .pre in
     ((field-type (pre .0 .0) (p .record-at .ensures), pre .1 .0), pre .1 .1)
 
 returns : tie.Need-returns
 returns c =
     let d = c .before .before in
-    let t = d .before .before .before .before .before .before .before .before .before in
+    let t = d .before .before .before .before .before .before .before .before .before .before .before in
     let p = t .before .before .before .before .before in
-    let s = p .before .before .before .before in
+    let s = p .before .before .before .before .before .before .before .before in
     type-resolved (s .pre .0 .0) (p .record-at .ensures) (s .args .delta) (t .resolve-type .ensures) _ _ (d .before .before .before .found .given .1)
     (d .finish-field .ensures _ _ _)
 
 returns-2 : tie.Need-returns-2
 returns-2 c =
-    let t = c .before .before .before .before .before .before .before in
+    let t = c .before .before .before .before .before .before .before .before .before in
     let p = t .before .before .before .before .before in
-    let s = p .before .before .before .before in
+    let s = p .before .before .before .before .before .before .before .before in
     type-refused (s .pre .0 .0) (p .record-at .ensures) (s .args .delta) (t .resolve-type .ensures) _ (c .before .found2 .given .1)
 
 pub lower-field-spec : {M : Type 1} → statement M
@@ -38,7 +38,9 @@ lower-field-spec =
     (λ c. search needs)
     (λ c. search needs)
     (λ c. search needs)
+    (λ c. search needs)
     returns
+    (λ c. search needs)
     (λ c. search needs)
     (λ c. search needs)
     returns-2)

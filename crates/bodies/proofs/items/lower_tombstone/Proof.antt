@@ -10,25 +10,25 @@ use Rattle.bodies.proofs.items.lower_tombstone.Tie as tie
 tombstone-type-requires : tie.Need-tombstone-type-requires
 tombstone-type-requires c κs =
     let p = c .before .before .before .before .before .before in
-    let pre = p .before .before .before .before .pre in
+    let pre = p .before .before .before .before .before .before .before .before .pre in
     (tombstone-child (pre .0 .0) (p .record-at .ensures), pre .1)
 
 returns : tie.Need-returns
 returns c =
     let e = c .before .before in
     let m = e .before .before in
-    let t = m .before .before .before .before .before .before .before .before in
+    let t = m .before .before .before .before .before .before .before .before .before .before in
     let s = t .before .before .before .before .before in
     let p = s .before .before in
-    tombstone-written (p .before .before .before .before .pre .0 .0) (p .record-at .ensures) (t .tombstone-type .ensures) _ _
+    tombstone-written (p .before .before .before .before .before .before .before .before .pre .0 .0) (p .record-at .ensures) (t .tombstone-type .ensures) _ _
     (m .before .before .found .given .1) (s .before .first-string .ensures) (s .first-string2 .ensures) (m .carried .ensures)
     (e .emit-last .ensures _ _ _ _ _ _ (omega (arith, m .carried .ok, ap (λ r. r .kind) (m .carried .ensures))))
 
 returns-2 : tie.Need-returns-2
 returns-2 c =
-    let t = c .before .before .before .before .before .before .before in
+    let t = c .before .before .before .before .before .before .before .before .before in
     let p = t .before .before .before .before .before .before .before in
-    tombstone-refused (p .before .before .before .before .pre .0 .0) (p .record-at .ensures) (t .tombstone-type .ensures) _
+    tombstone-refused (p .before .before .before .before .before .before .before .before .pre .0 .0) (p .record-at .ensures) (t .tombstone-type .ensures) _
     (c .before .found2 .given .1)
 
 pub lower-tombstone-spec : {M : Type 1} → statement M
@@ -45,7 +45,9 @@ lower-tombstone-spec =
     (λ c. search needs)
     (λ c. search needs)
     (λ c. search needs)
+    (λ c. search needs)
     returns
+    (λ c. search needs)
     (λ c. search needs)
     (λ c. search needs)
     returns-2)

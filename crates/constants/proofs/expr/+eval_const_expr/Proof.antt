@@ -9,7 +9,7 @@ use borrow.Fn.PlainCycle.{Measures, is, falls, and}
 use denote.Ref.{now}
 use Rattle.record.specs.declared.Record.{Record}
 use Rattle.constants.specs.Eval.{evalConstExpr}
-use Rattle.constants.proofs.Nodes.{Sides, literal-here, reference-here, name-here, operation-here, sides-here}
+use Rattle.constants.proofs.Nodes.{Sides, literal-here, reference-here, operation-here, sides-here}
 use Rattle.constants.proofs.expr.eval_const_expr.Reads as reads
 use Rattle.constants.proofs.expr.eval_const_expr.Kinds as kinds
 use Rattle.constants.proofs.expr.+eval_const_expr.Lts-eval_const_expr as lts
@@ -45,12 +45,9 @@ claims t = (
 sides :
     (t : ℕ) (c : lts.At-match-rest (claims t) (at t) reads.Post) →
     let r : Record = c .before .record-at .result in
-    let a = c .before .before .before .args in
+    let a = c .before .before .before .before .before .args in
     Sides (now (a .book)) (a .n) (r .a) (r .b)
-sides t c = sides-here (c .before .before .before .pre .1) _ (c .before .record-at .ensures) (c .match .rest .0 .1) (c .match .rest .1)
-
-stored-value-requires : (t : ℕ) → lts.Need-stored-value-requires (claims t) (at t) reads.Post
-stored-value-requires t c κs = name-here (c .before .before .before .pre .1) _ (c .before .record-at .ensures) (c .match .keys2)
+sides t c = sides-here (c .before .before .before .before .before .pre .1) _ (c .before .record-at .ensures) (c .match .rest .0 .1) (c .match .rest .1)
 
 eval-const-expr-requires : (t : ℕ) → lts.Need-eval-const-expr-requires (claims t) (at t) reads.Post
 eval-const-expr-requires t c κs = (omega (arith, sides t c .left-earlier), sides t c .left)
@@ -61,13 +58,13 @@ eval-const-expr-requires-2 t c κs = (omega (arith, sides t (c .before) .right-e
 returns : (t : ℕ) → lts.Need-returns (claims t) (at t) reads.Post
 unfolding evalConstExpr
 returns t c =
-    rw (literal-here (c .before .before .before .before .pre .1) _ (c .before .before .record-at .ensures) (c .before .match .keys1))
+    rw (literal-here (c .before .before .before .before .before .before .pre .1) _ (c .before .before .record-at .ensures) (c .before .match .keys1))
     (c .literal-value .ensures)
 
 returns-2 : (t : ℕ) → lts.Need-returns-2 (claims t) (at t) reads.Post
 unfolding evalConstExpr
 returns-2 t c =
-    rw (reference-here (c .before .before .before .before .pre .1) _ (c .before .before .record-at .ensures) (c .before .match .keys2))
+    rw (reference-here (c .before .before .before .before .before .before .pre .1) _ (c .before .before .record-at .ensures) (c .before .match .keys2))
     (c .stored-value .ensures)
 
 returns-3 : (t : ℕ) → lts.Need-returns-3 (claims t) (at t) reads.Post
@@ -75,7 +72,7 @@ unfolding evalConstExpr
 returns-3 t c =
     let d = c .before .before .before in
     rw (
-      operation-here (d .before .before .before .pre .1) _ (d .before .record-at .ensures) (d .match .rest .0 .1) (d .match .rest .1),
+      operation-here (d .before .before .before .before .before .pre .1) _ (d .before .record-at .ensures) (d .match .rest .0 .1) (d .match .rest .1),
       ← c .before .before .eval-const-expr .ensures,
       ← c .before .eval-const-expr2 .ensures,
     )
@@ -87,7 +84,7 @@ pub +eval-const-expr-spec : {M : Type 1} → statement M
     lts.spec (claims t) (at t) reads.Post
     (λ c κs. search needs)
     (λ c κs. search needs)
-    (stored-value-requires t)
+    (λ c κs. search needs)
     (eval-const-expr-requires t)
     (eval-const-expr-requires-2 t)
     (λ c κs. search needs)

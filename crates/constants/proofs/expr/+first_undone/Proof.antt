@@ -12,7 +12,7 @@ use Rattle.record.specs.declared.Record.{Record}
 use Rattle.book.specs.Lists.{find}
 use Rattle.book.proofs.First.{find-append}
 use Rattle.constants.specs.Expr.{refs}
-use Rattle.constants.proofs.Nodes.{Sides, literal-here, reference-here, name-here, operation-here, sides-here}
+use Rattle.constants.proofs.Nodes.{Sides, literal-here, reference-here, operation-here, sides-here}
 use Rattle.constants.proofs.expr.first_undone.Reads as reads
 use Rattle.constants.proofs.expr.first_undone.Kinds as kinds
 use Rattle.constants.proofs.expr.+first_undone.Lts-first_undone as lts
@@ -42,12 +42,9 @@ claims t = (
 sides :
     (t : ℕ) (c : lts.At-match-rest (claims t) (at t) reads.Post) →
     let r : Record = c .before .record-at .result in
-    let a = c .before .before .before .args in
+    let a = c .before .before .before .before .args in
     Sides (now (a .book)) (a .n) (r .a) (r .b)
-sides t c = sides-here (c .before .before .before .pre .1) _ (c .before .record-at .ensures) (c .match .rest .0 .1) (c .match .rest .1)
-
-if-undone-requires : (t : ℕ) → lts.Need-if-undone-requires (claims t) (at t) reads.Post
-if-undone-requires t c κs = name-here (c .before .before .before .pre .1) _ (c .before .record-at .ensures) (c .match .keys2)
+sides t c = sides-here (c .before .before .before .before .pre .1) _ (c .before .record-at .ensures) (c .match .rest .0 .1) (c .match .rest .1)
 
 first-undone-requires : (t : ℕ) → lts.Need-first-undone-requires (claims t) (at t) reads.Post
 first-undone-requires t c κs = (omega (arith, sides t c .left-earlier), sides t c .left)
@@ -57,7 +54,7 @@ unfolding refs orElse
 returns t c =
     let d = c .before .before .before in
     rw (
-      operation-here (d .before .before .before .pre .1) _ (d .before .record-at .ensures) (d .match .rest .0 .1) (d .match .rest .1),
+      operation-here (d .before .before .before .before .pre .1) _ (d .before .record-at .ensures) (d .match .rest .0 .1) (d .match .rest .1),
       find-append,
       ← c .before .before .first-undone .ensures,
       c .enum-told2 .given .1,
@@ -70,12 +67,12 @@ first-undone-requires-2 t c κs =
 
 returns-2 : (t : ℕ) → lts.Need-returns-2 (claims t) (at t) reads.Post
 unfolding refs find
-returns-2 t c = rw (literal-here (c .before .before .before .pre .1) _ (c .before .record-at .ensures) (c .match .keys1))
+returns-2 t c = rw (literal-here (c .before .before .before .before .pre .1) _ (c .before .record-at .ensures) (c .match .keys1))
 
 returns-3 : (t : ℕ) → lts.Need-returns-3 (claims t) (at t) reads.Post
 unfolding refs
 returns-3 t c =
-    rw (reference-here (c .before .before .before .before .pre .1) _ (c .before .before .record-at .ensures) (c .before .match .keys2))
+    rw (reference-here (c .before .before .before .before .before .pre .1) _ (c .before .before .record-at .ensures) (c .before .match .keys2))
     (c .if-undone .ensures)
 
 returns-4 : (t : ℕ) → lts.Need-returns-4 (claims t) (at t) reads.Post
@@ -83,7 +80,7 @@ unfolding refs orElse
 returns-4 t c =
     let d = c .before .before .before .before in
     rw (
-      operation-here (d .before .before .before .pre .1) _ (d .before .record-at .ensures) (d .match .rest .0 .1) (d .match .rest .1),
+      operation-here (d .before .before .before .before .pre .1) _ (d .before .record-at .ensures) (d .match .rest .0 .1) (d .match .rest .1),
       find-append,
       ← c .before .before .before .first-undone .ensures,
       c .before .enum-told .given .1,
@@ -95,7 +92,7 @@ pub +first-undone-spec : {M : Type 1} → statement M
     close μ (λ t.
     lts.spec (claims t) (at t) reads.Post
     (λ c κs. search needs)
-    (if-undone-requires t)
+    (λ c κs. search needs)
     (first-undone-requires t)
     (λ c. search needs)
     (λ c. search needs)

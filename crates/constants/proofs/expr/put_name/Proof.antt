@@ -6,11 +6,11 @@ use Rattle.constants.proofs.expr.put_name.Statement.{statement}
 use Rattle.constants.proofs.expr.put_name.Tie as tie
 
 returns : tie.Need-returns
-returns c = let s = c .before in listed-one _ (s .pre .0) (c .if1 .taken) (s .pre .2)
+returns c = listed-one _ (c .if1 .taken)
 
 returns-2 : tie.Need-returns-2
-returns-2 c = let s = c .before in listed-none _ (s .pre .1) (s .pre .2)
+returns-2 c = listed-none _ (c .before .pre .0)
 
 pub put-name-spec : {M : Type 1} → statement M
 put-name-spec =
-    tie.close (tie.spec (λ c. search needs) (λ c. search needs) (λ c. search needs) returns returns-2)
+    tie.close (tie.spec (λ c. search needs) (λ c. search needs) (λ c. search needs) (λ c. search needs) returns returns-2)

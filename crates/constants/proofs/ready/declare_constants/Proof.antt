@@ -3,39 +3,49 @@
 -- Assumes nothing.
 use Prim.Native.Nat.{_-_}
 use mathlib.Core.Logic.{⊎-elim}
+use mathlib.Core.Path.{_≡_, _∙_}
 use native.Mathlib.Omega.{arith}
+use lib.ListN.{length, length-set}
 use borrow.Author.Needs.{needs}
 use Rattle.constants.proofs.Declaring.{Declaring, declaring-start, declaring-end, declares-name, declaring-constant, declaring-other}
 use Rattle.constants.proofs.ready.declare_constants.Statement.{statement}
 use Rattle.constants.proofs.ready.declare_constants.Tie as tie
 
 abbrev Inv-loop : tie.InvT-loop
-Inv-loop book count places₀ undone₀ never m₀ n₀ places undone m n = Declaring book m n places undone
+Inv-loop book count places₀ undone₀ m₀ n₀ places undone m n =
+    Declaring book m n places undone × (length places ≡ length places₀) × (length undone ≡ length undone₀)
 
 abbrev μ-loop : tie.MeasureT-loop
-μ-loop book count places₀ undone₀ never m₀ n₀ places undone m n = count - n
+μ-loop book count places₀ undone₀ m₀ n₀ places undone m n = count - n
 
 loop-holds : tie.Need-loop-holds Inv-loop μ-loop
-loop-holds c = let s = c .before in declaring-start _ _ (s .pre .1 .0) (s .pre .1 .1)
+loop-holds c = (declaring-start (c .before .before .before .pre .1), search needs, search needs)
 
-element-write-undone-2 : tie.Need-element-write-undone-2 Inv-loop μ-loop
-element-write-undone-2 c =
-    let r = c .before .before .before in
-    let l = r .before .before in
-    omega (arith, declares-name (l .before .before .pre .0 .0) (l .loop .inv) (search needs) (r .record-at .ensures) (c .before .if1 .taken))
+slice-write-places : tie.Need-slice-write-places Inv-loop μ-loop
+slice-write-places c = let d = c .before .before .before .before .before .loop .inv .0 in omega (arith, d .few, d .long, c .before .before .before .before .before .before .before .before .before .pre .0 .1, c .before .before .before .before .loop-test .taken)
+
+slice-write-undone : tie.Need-slice-write-undone Inv-loop μ-loop
+slice-write-undone c =
+    declares-name (c .before .before .before .before .before .before .before .before .before .pre .0 .0) (c .before .before .before .before .before .loop .inv .0) (search needs) (c .before .before .before .record-at .ensures) (c .before .if1 .taken)
 
 loop-again : tie.Need-loop-again Inv-loop μ-loop
 loop-again c =
-    let r = c .before .before in
-    let l = r .before .before in
-    let readable = l .before .before .pre .0 .0 in
+    let l = c .before .before .before .before in
+    let inv = l .loop .inv in
+    let readable = c .before .before .before .before .before .before .before .before .pre .0 .0 in
+    let at = c .before .before .record-at .ensures in
     ⊎-elim
-    (λ w. rw (w .2, w .3, w .4) (declaring-constant readable (l .loop .inv) (search needs) (r .record-at .ensures) (w .0 .taken)))
-    (λ w. rw (w .1, w .2, w .3) (declaring-other readable (l .loop .inv) (search needs) (r .record-at .ensures) (w .0 .left)))
+    (λ w.
+    rw (w .2, w .3, w .4) (
+      declaring-constant readable (inv .0) (search needs) at (w .0 .taken),
+      length-set (l .loop .places) _ _ ∙ inv .1,
+      length-set (l .loop .undone) _ _ ∙ inv .2,
+    ))
+    (λ w. rw (w .1, w .2, w .3) (declaring-other readable (inv .0) (search needs) at (w .0 .left), inv .1, inv .2))
     (c .if1 .came)
 
 returns : tie.Need-returns Inv-loop μ-loop
-returns c = declaring-end (c .before .before .before .pre .0 .0) (c .before .loop .inv) (search needs)
+returns c = declaring-end (c .before .before .before .before .before .pre .0 .0) (c .before .loop .inv .0) (search needs)
 
 pub declare-constants-spec : {M : Type 1} → statement M
 declare-constants-spec =
@@ -43,17 +53,17 @@ declare-constants-spec =
     (tie.spec
     Inv-loop
     μ-loop
-    (λ c. search needs)
-    (λ c. search needs)
     loop-holds
     (λ c κs. search needs)
     (λ c. search needs)
     (λ c. search needs)
     (λ c. search needs)
-    (λ c. search needs)
-    element-write-undone-2
+    slice-write-places
+    slice-write-undone
     (λ c. search needs)
     (λ c. search needs)
     (λ c. search needs)
     loop-again
+    (λ c. search needs)
+    (λ c. search needs)
     returns)

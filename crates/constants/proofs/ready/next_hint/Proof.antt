@@ -2,7 +2,7 @@
 -- Assumes nothing.
 use Prim.Native.Nat.{ℕ, _-_, _≤_, _<_}
 use mathlib.Core.Bool.{false}
-use mathlib.Core.Path.{_≡_}
+use mathlib.Core.Path.{_≡_, sym, _∙_}
 use native.Mathlib.Omega.{arith}
 use lib.ListN.{getD}
 use borrow.Author.Count.{below-more}
@@ -16,25 +16,17 @@ Inv-loop k end undone named j₀ j = (k ≤ j) × ((i : ℕ) → i < j → k ≤
 abbrev μ-loop : tie.MeasureT-loop
 μ-loop k end undone named j₀ j = end - j
 
-element-copy-out-if1 : tie.Need-element-copy-out-if1 Inv-loop μ-loop
-element-copy-out-if1 c =
-    let l = c .before .before in
-    omega (arith, l .before .pre .1 (l .loop .j) (search needs) (search needs))
-
-cast-name : tie.Need-cast-name Inv-loop μ-loop
-cast-name c = omega (arith, element-copy-out-if1 c)
-
 loop-holds : tie.Need-loop-holds Inv-loop μ-loop
 loop-holds c = (search needs, λ i less from. absurd (omega arith))
 
 returns : tie.Need-returns Inv-loop μ-loop
 returns c =
     let inv = c .before .before .before .before .loop .inv in
-    record { onward = inv .0; none-before = inv .1; holds = λ less. c .if1 .taken }
+    record { onward = inv .0; none-before = inv .1; holds = λ less. sym (c .before .is-marked .ensures) ∙ c .if1 .taken }
 
 loop-again : tie.Need-loop-again Inv-loop μ-loop
 loop-again c =
-    (search needs, below-more _ _ (c .before .before .before .before .loop .inv .1) (λ from. c .if1 .left))
+    (search needs, below-more _ _ (c .before .before .before .before .loop .inv .1) (λ from. sym (c .before .is-marked .ensures) ∙ c .if1 .left))
 
 returns-2 : tie.Need-returns-2 Inv-loop μ-loop
 returns-2 c =
@@ -51,8 +43,7 @@ next-hint-spec =
     (λ c. search needs)
     (λ c. search needs)
     (λ c. search needs)
-    cast-name
-    element-copy-out-if1
+    (λ c κs. search needs)
     returns
     (λ c. search needs)
     (λ c. search needs)

@@ -33,5 +33,11 @@ put-value-spec =
     (λ c. search needs)
     (λ c. search needs)
     (λ c. search needs)
+    (λ c. search needs)
+    (λ c. search needs)
+    (λ c. search needs)
+    (λ c. search needs)
     returns
+    (λ c. search needs)
+    (λ c. search needs)
     returns-2)

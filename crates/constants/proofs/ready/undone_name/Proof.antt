@@ -6,27 +6,19 @@ use Rattle.constants.proofs.Hinting.{hinted-undone, found-undone}
 use Rattle.constants.proofs.ready.undone_name.Statement.{statement}
 use Rattle.constants.proofs.ready.undone_name.Tie as tie
 
-next-hint-requires : tie.Need-next-hint-requires
-next-hint-requires c κs =
-    let h = c .before .before .before .pre .2 in
-    (h .within, λ j from less. h .names j from less .low)
-
 returns : tie.Need-returns
 returns c =
     let n = c .before .before in
-    let h = n .before .before .before .before .pre .2 in
     let next = n .next-hint .ensures in
-    let less = c .before .if1 .taken in
-    (hinted-undone h (next .onward) less (next .holds less), record { to = n .next-hint .result; onward = next .onward; set-is = refl })
-
-first-undone-requires : tie.Need-first-undone-requires
-first-undone-requires c κs = c .before .before .before .before .before .pre .0
+    let less = c .before .if1 .taken in (
+      hinted-undone (n .before .before .before .before .before .before .before .before .pre .1 .1) (next .onward) less (next .holds less),
+      record { to = n .next-hint .result; onward = next .onward; set-is = refl },
+    )
 
 returns-2 : tie.Need-returns-2
 returns-2 c =
-    let n = c .before .before in
-    let pre = n .before .before .before .before .pre in (
-      found-undone (pre .0) (c .first-undone .ensures),
+    let n = c .before .before in (
+      found-undone _ _ (c .first-undone .ensures),
       record { to = n .next-hint .result; onward = n .next-hint .ensures .onward; set-is = refl },
     )
 
@@ -38,12 +30,14 @@ undone-name-spec =
     (λ c. search needs)
     (λ c. search needs)
     (λ c. search needs)
-    next-hint-requires
+    (λ c κs. search needs)
+    (λ c. search needs)
     (λ c. search needs)
     (λ c. search needs)
     (λ c. search needs)
     (λ c. search needs)
     (λ c. search needs)
     returns
-    first-undone-requires
+    (λ c κs. search needs)
+    (λ c. search needs)
     returns-2)

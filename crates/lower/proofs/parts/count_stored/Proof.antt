@@ -20,13 +20,13 @@ loop-holds : tie.Need-loop-holds Inv-loop μ-loop
 unfolding trues
 loop-holds c = (refl, omega arith)
 
-element-copy-out-if1 : tie.Need-element-copy-out-if1 Inv-loop μ-loop
-element-copy-out-if1 c = omega (arith, c .before .before .pre)
+shared-slice-read-if1 : tie.Need-shared-slice-read-if1 Inv-loop μ-loop
+shared-slice-read-if1 c = omega (arith, c .before .before .before .pre)
 
 add-n : tie.Need-add-n Inv-loop μ-loop
 add-n c =
     let l = c .before .before .before in
-    omega (arith, l .loop .inv, trues-few (l .before .args .stored .now) (l .loop .k), l .before .pre)
+    omega (arith, l .loop .inv, trues-few (l .before .args .stored .now) (l .loop .k), l .before .fits .m)
 
 loop-again : tie.Need-loop-again Inv-loop μ-loop
 loop-again c =
@@ -50,7 +50,7 @@ count-stored-spec =
     μ-loop
     loop-holds
     (λ c. search needs)
-    element-copy-out-if1
+    shared-slice-read-if1
     add-n
     (λ c. search needs)
     (λ c. search needs)

@@ -8,16 +8,16 @@ use Rattle.lower.proofs.parts.lower_named.Tie as tie
 
 lower-aliases-requires : tie.Need-lower-aliases-requires
 lower-aliases-requires c κs =
-    let s = c .before .before .before .before .before .before .before .before in (
-      (s .pre .0 .0, s .pre .1 .registered .reads, none-lowered (s .pre .0 .1 .readable)),
+    let s = c .before .before .before .before .before .before .before .before .before .before .before .before .before .before .before in (
+      (s .pre .0 .0, s .pre .1 .registered .reads, none-lowered (now (s .args .book)) (s .pre .1 .size) (s .pre .1 .aliases-are)),
       start-stands (now (s .args .results)) (now (s .args .diagnostics)) (s .pre .1),
     )
 
 lower-rest-requires : tie.Need-lower-rest-requires
 lower-rest-requires c κs =
     let e = c .before .before .before .before .before .before in
-    let l = e .before .before .before .before .before .before in
-    let s = l .before .before .before .before .before .before .before .before .before in (
+    let l = c .before .before .before .before .before .before .before .before .before .before .before .before .before .before .before .before in
+    let s = c .before .before .before .before .before .before .before .before .before .before .before .before .before .before .before .before .before .before .before .before .before .before .before .before .before .before .before .before .before .before .before .before in (
       s .pre .0,
       (
         s .pre .1 .registered .reads,
@@ -27,17 +27,17 @@ lower-rest-requires c κs =
 
 returns : tie.Need-returns
 returns c =
-    let r = c .before .before .before .before in
-    let e = r .before .before .before .before .before .before .before in
-    let l = e .before .before .before .before .before .before in
-    let s = l .before .before .before .before .before .before .before .before .before in
+    let r = c .before .before .before .before .before .before in
+    let e = c .before .before .before .before .before .before .before .before .before .before .before .before .before in
+    let l = c .before .before .before .before .before .before .before .before .before .before .before .before .before .before .before .before .before .before .before .before .before .before .before in
+    let s = c .before .before .before .before .before .before .before .before .before .before .before .before .before .before .before .before .before .before .before .before .before .before .before .before .before .before .before .before .before .before .before .before .before .before .before .before .before .before .before in
     rest-lowers (now (s .args .results)) (now (s .args .diagnostics)) (s .pre .1) (l .lower-aliases .ensures) (e .end .given .1)
     (r .lower-rest .ensures)
 
 returns-2 : tie.Need-returns-2
 returns-2 c =
-    let l = c .before .before .before .before .before .before .before in
-    let s = l .before .before .before .before .before .before .before .before .before in
+    let l = c .before .before .before .before .before .before .before .before .before .before .before in
+    let s = c .before .before .before .before .before .before .before .before .before .before .before .before .before .before .before .before .before .before .before .before .before .before .before .before .before .before .before in
     alias-refused (now (s .args .results)) (now (s .args .diagnostics)) (s .pre .1) (l .lower-aliases .ensures) (c .before .end2 .given .1)
 
 pub lower-named-spec : {M : Type 1} → statement M
@@ -50,7 +50,11 @@ lower-named-spec =
     (λ c. search needs)
     (λ c. search needs)
     (λ c. search needs)
+    (λ c. search needs)
+    (λ c. search needs)
     returns
+    (λ c. search needs)
+    (λ c. search needs)
     (λ c. search needs)
     (λ c. search needs)
     returns-2)

@@ -1,43 +1,26 @@
--- `lower::parts::lower_read` meets its contract. Over empty arrays, what evaluating leaves are the reached constants of the book.
+-- `lower::parts::lower_read` meets its contract. A book is small if a look at each of its names says so.
 -- Assumes nothing.
-use mathlib.Core.Path.{refl}
-use native.Mathlib.Omega.{arith}
+use mathlib.Core.Path.{sym, _∙_}
 use borrow.Author.Needs.{needs}
-use Rattle.bodies.proofs.Settling.{few-settled, evaluated-holds}
-use Rattle.lower.proofs.Ending.{replied}
+use Rattle.types.proofs.Below.{names-below-so}
 use Rattle.lower.proofs.parts.lower_read.Statement.{statement}
 use Rattle.lower.proofs.parts.lower_read.Tie as tie
 
-lower-records-requires : tie.Need-lower-records-requires
-lower-records-requires c κs =
-    let e = c .before .before .before .before .before in
-    let p = e .before .before .before .before .before .before .before .before .before .pre in
-    (p .1, p .2, evaluated-holds (p .0) refl (e .evaluate-constants .ensures))
-
-count-stored-requires : tie.Need-count-stored-requires
-count-stored-requires c κs =
-    let e = c .before .before .before .before .before .before .before .before .before .before .before in
-    let p = e .before .before .before .before .before .before .before .before .before .pre in
-    omega (arith, few-settled (p .0), evaluated-holds (p .0) refl (e .evaluate-constants .ensures) .count)
-
-returns : tie.Need-returns
-returns c =
-    let r = c .before .before .before .before in
-    let n = r .before .before .before in
-    let l = n .before .before .before .before .before .before in
-    let e = l .before .before .before .before .before .before in
-    let p = e .before .before .before .before .before .before .before .before .before .pre in
-    replied (r .reply-to .result) (l .lower-records .ensures) (r .reply-to .ensures)
-    (n .count-stored .ensures _ (evaluated-holds (p .0) refl (e .evaluate-constants .ensures) .stored-is))
+lower-small-requires : tie.Need-lower-small-requires
+lower-small-requires c κs =
+    let s = c .before .before .before .before .before .before .before .before in
+    (s .pre, (c .before .before .before .before .if1 .taken, names-below-so (s .pre .0) 256 (sym (c .before .before .before .names-below .ensures) ∙ c .before .before .if2 .taken)))
 
 pub lower-read-spec : {M : Type 1} → statement M
 lower-read-spec =
     tie.close
     (tie.spec
     (λ c κs. search needs)
-    lower-records-requires
-    count-stored-requires
+    lower-small-requires
+    (λ c. search needs)
+    (λ c. search needs)
+    (λ c. search needs)
     (λ c κs. search needs)
     (λ c. search needs)
     (λ c. search needs)
-    returns)
+    (λ c. search needs))

@@ -13,8 +13,8 @@ use Rattle.lower.proofs.parts.lower_rest.Tie as tie
 lower-bodies-requires : tie.Need-lower-bodies-requires
 lower-bodies-requires c κs =
     let e = c .before .before .before .before .before in
-    let l = e .before .before .before .before .before .before in
-    let p = l .before .before .before .before .before .before .before .before .pre in
+    let l = c .before .before .before .before .before .before .before .before .before .before .before .before .before in
+    let p = l .before .before .before .before .before .before .before .before .before .before .before .before .before .before .before .pre in
     let st = p .1 .1 in (
       p .0 .0,
       (
@@ -25,16 +25,16 @@ lower-bodies-requires c κs =
 
 returns : tie.Need-returns
 returns c lent place k s f =
-    let b = c .before .before .before .before in
-    let e = b .before .before .before .before .before .before in
-    let l = e .before .before .before .before .before .before in
-    let book = read (now (l .before .before .before .before .before .before .before .before .args .book)) in
+    let b = c .before .before .before .before .before .before in
+    let e = c .before .before .before .before .before .before .before .before .before .before .before .before in
+    let l = c .before .before .before .before .before .before .before .before .before .before .before .before .before .before .before .before .before .before .before .before in
+    let book = read (now (l .before .before .before .before .before .before .before .before .before .before .before .before .before .before .before .args .book)) in
     part-then (lowerConstants book (settled book)) (lowerBodies book) k s (e .end .given .1) (l .lower-constants .ensures lent place k s f) (b .lower-bodies .ensures)
 
 returns-2 : tie.Need-returns-2
 returns-2 c lent place k s f =
-    let l = c .before .before .before .before .before .before .before in
-    let book = read (now (l .before .before .before .before .before .before .before .before .args .book)) in
+    let l = c .before .before .before .before .before .before .before .before .before in
+    let book = read (now (l .before .before .before .before .before .before .before .before .before .before .before .before .before .before .before .args .book)) in
     part-refused (lowerConstants book (settled book)) (lowerBodies book) k s (c .before .end2 .given .1)
     (l .lower-constants .ensures lent place k s f)
 
@@ -48,7 +48,9 @@ lower-rest-spec =
     (λ c. search needs)
     (λ c. search needs)
     (λ c. search needs)
+    (λ c. search needs)
     returns
+    (λ c. search needs)
     (λ c. search needs)
     (λ c. search needs)
     returns-2)

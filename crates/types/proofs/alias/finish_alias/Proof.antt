@@ -7,6 +7,7 @@ use native.Mathlib.Omega.{arith}
 use lib.Seq.{getD-set-other}
 use denote.Ref.{now}
 use borrow.Author.Needs.{needs}
+use Rattle.types.specs.Resolved.{POISON}
 use Rattle.types.proofs.Finishing.{alias-finished, alias-refused}
 use Rattle.types.proofs.alias.finish_alias.Statement.{statement}
 use Rattle.types.proofs.alias.finish_alias.Tie as tie
@@ -14,17 +15,17 @@ use Rattle.types.proofs.alias.finish_alias.Tie as tie
 returns : tie.Need-returns
 returns c =
     let e = c .before .before .before .before .before .before in
-    let s = e .before .before .before .before in (
+    let s = e .before .before .before .before .before in (
       λ numbers pairs diagnostics bytes scope lent place k state t f root-is stands free.
           alias-finished f (s .args .r) t root-is stands (e .before .before .alias-record .ensures) (e .emit .ensures)
-          (s .pre) (omega (arith, c .struct-known .given)) free _ _ (c .before .before .behind .given .1),
-      λ n other. getD-set-other (now (s .args .aliases)) (s .args .r .a) n (65536 * s .args .root + s .args .first) 0 other,
+          (omega (arith, c .struct-known .given)) (s .pre) (omega (arith, c .struct-known .given)) free _ _ (c .before .before .behind .given .1),
+      λ n other. getD-set-other (now (s .args .aliases)) (s .args .r .a) n (65536 * s .args .root + s .args .first) POISON other,
     )
 
 returns-2 : tie.Need-returns-2
 returns-2 c =
     let e = c .before .before .before .before .before in
-    let s = e .before .before .before .before in (
+    let s = e .before .before .before .before .before in (
       λ numbers pairs diagnostics bytes scope lent place k state t f root-is stands free.
           alias-refused f (s .args .r) t root-is stands (e .before .before .alias-record .ensures) (e .emit .ensures) _ (c .before .stop .given .1),
       λ n other. refl,
@@ -36,6 +37,7 @@ finish-alias-spec =
     (tie.spec
     (λ c κs. search needs)
     (λ c κs. search needs)
+    (λ c. search needs)
     (λ c. search needs)
     (λ c. search needs)
     (λ c. search needs)

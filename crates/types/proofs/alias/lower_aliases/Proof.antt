@@ -18,6 +18,8 @@ use Rattle.types.proofs.alias.lower_aliases.Tie as tie
 abbrev Inv-loop : tie.InvT-loop
 Inv-loop book count scope ambiguous aliases₀ generics numbers₀ pairs₀ results₀ diagnostics₀ behind₀ n₀ aliases numbers pairs results diagnostics behind n =
     Aliasing book scope aliases₀ behind₀ (held numbers₀ pairs₀ results₀ diagnostics₀) aliases behind (held numbers pairs results diagnostics) n
+    × (length aliases ≡ length aliases₀)
+    × (length numbers ≡ length numbers₀)
     × (length results ≡ length results₀)
     × (length diagnostics ≡ length diagnostics₀)
 
@@ -27,32 +29,32 @@ abbrev μ-loop : tie.MeasureT-loop
 
 loop-holds : tie.Need-loop-holds Inv-loop μ-loop
 loop-holds c =
-    let s = c .before .before .before in
-    (aliasing-start (s .args .scope) (s .args .ctx) _ (s .pre .0 .2), refl, refl)
+    let s = c .before .before .before .before .before .before .before in
+    (aliasing-start (s .args .scope) (s .args .ctx) _ (s .pre .0 .2), refl, refl, refl, refl)
 
 is-plain-alias-requires : tie.Need-is-plain-alias-requires Inv-loop μ-loop
-is-plain-alias-requires c κs = let p = c .before .before .before .before .before .pre in (p .0 .1 .readable, p .0 .0, omega arith)
+is-plain-alias-requires c κs = let p = c .before .before .before .before .before .before .before .before .before .pre in (p .0 .1 .readable, p .0 .0, omega arith)
 
 -- in a turn of the loop
 module _ (c : tie.After-is-plain-alias Inv-loop μ-loop) where
-  readable : Readable (now (c .before .before .before .before .before .before .args .book))
-  readable = c .before .before .before .before .before .before .pre .0 .1 .readable
+  readable : Readable (now (c .before .before .before .before .before .before .before .before .before .before .args .book))
+  readable = c .before .before .before .before .before .before .before .before .before .before .pre .0 .1 .readable
 
-  less : c .before .before .loop .n < recordCount (now (c .before .before .before .before .before .before .args .book))
+  less : c .before .before .loop .n < recordCount (now (c .before .before .before .before .before .before .before .before .before .before .args .book))
   less = omega arith
 
 lower-alias-requires : tie.Need-lower-alias-requires Inv-loop μ-loop
 lower-alias-requires c κs =
     let p = c .before .before .before .before .before .before in
     let l = p .before .before in
-    let pre = l .before .before .before .before .pre in (
+    let pre = l .before .before .before .before .before .before .before .before .pre in (
       (plain-alias (readable p) (l .loop .inv .0) (less p) (sym (c .before .before .before .before .before .if1 .taken) ∙ p .is-plain-alias .ensures), pre .0 .1),
       aliasing-stands (readable p) (l .loop .inv .0) (pre .1),
     )
 
 returns : tie.Need-returns Inv-loop μ-loop
 returns c =
-    let d = c .before .before .before .before .before .before .before in
+    let d = c .before .before .before .before .before .before .before .before .before .before .before in
     let i = d .before .before .before .before .before .before in
     let p = i .before in
     aliasing-refused (readable p) (p .before .before .loop .inv .0) (less p) (sym (i .if1 .taken) ∙ p .is-plain-alias .ensures)
@@ -64,9 +66,11 @@ loop-again c =
     let l = p .before .before in
     ⊎-elim
     (λ w.
-    rw (w .14, w .15, w .16, w .17, w .18, w .19) (
+    rw (w .18, w .19, w .20, w .21, w .22, w .23) (
       aliasing-done (readable p) (l .loop .inv .0) (less p) (sym (w .0 .taken) ∙ p .is-plain-alias .ensures)
-          (w .6 .ensures .0) _ (w .12 .given .1) (w .6 .ensures .1),
+          (w .6 .ensures .0) _ (w .16 .given .1) (w .6 .ensures .1),
+      search needs,
+      search needs,
       search needs,
       search needs,
     ))
@@ -75,13 +79,15 @@ loop-again c =
       aliasing-other (readable p) (l .loop .inv .0) (less p) (sym (w .0 .left) ∙ p .is-plain-alias .ensures),
       l .loop .inv .1,
       l .loop .inv .2,
+      l .loop .inv .3,
+      l .loop .inv .4,
     ))
     (c .if1 .came)
 
 returns-2 : tie.Need-returns-2 Inv-loop μ-loop
 returns-2 c =
     let l = c .before in
-    aliasing-end (l .before .before .before .before .pre .0 .1 .readable) (l .loop .inv .0) (omega arith)
+    aliasing-end (l .before .before .before .before .before .before .before .before .pre .0 .1 .readable) (l .loop .inv .0) (omega arith)
 
 pub lower-aliases-spec : {M : Type 1} → statement M
 lower-aliases-spec =
@@ -96,10 +102,14 @@ lower-aliases-spec =
     (λ c. search needs)
     (λ c. search needs)
     (λ c. search needs)
+    (λ c. search needs)
+    (λ c. search needs)
     returns
     (λ c. search needs)
     (λ c. search needs)
     loop-again
+    (λ c. search needs)
+    (λ c. search needs)
     (λ c. search needs)
     (λ c. search needs)
     returns-2)

@@ -11,20 +11,20 @@ use Rattle.types.proofs.find.find_head.Tie as tie
 returns : tie.Need-returns
 returns c bytes ambiguous ctx pairs diagnostics r lent place k s f =
     let l = c .before .before in
-    no-number r (l .before .before .args .name) k (l .lookup .ensures _ _ _ _ _ lent place k s f) (c .enum-told .given .1)
+    no-number r (l .before .before .before .before .before .args .name) k (l .lookup .ensures _ _ _ _ _ lent place k s f) (c .enum-told .given .1)
 
 returns-2 : tie.Need-returns-2
 returns-2 c bytes ambiguous ctx pairs diagnostics r lent place k s f =
     let i = c .before .before .before .before in
     let l = i .before .before in
-    no-generic r (l .before .before .args .name) k (l .lookup .ensures _ _ _ _ _ lent place k s f) (i .id .given .1) (c .if1 .taken)
+    no-generic r (l .before .before .before .before .before .args .name) k (l .lookup .ensures _ _ _ _ _ lent place k s f) (i .id .given .1) (c .if1 .taken)
 
 -- the number is a generic alias's
 abbrev number : tie.After-struct-known3 → ℕ
 number c = c .before .before .before .before .before .id .given .0 .0 .0
 
 abbrev scope-at : tie.After-struct-known3 → Scope
-scope-at c = c .before .before .before .before .before .before .before .before .before .args .scope
+scope-at c = c .before .before .before .before .before .before .before .before .before .before .before .before .args .scope
 
 inside : (c : tie.After-struct-known3) → (scope-at c .types ≤ number c) × (number c < scope-at c .named)
 inside c = between (number c) (scope-at c .types) (scope-at c .named) (c .before .if1 .left)
@@ -32,15 +32,15 @@ inside c = between (number c) (scope-at c .types) (scope-at c .named) (c .before
 sub-at : tie.Need-sub-at
 sub-at c = omega (arith, inside c)
 
-element-copy-out-generic : tie.Need-element-copy-out-generic
-element-copy-out-generic c = omega (arith, inside c, c .before .before .before .before .before .before .before .before .before .pre)
+shared-slice-read-generic : tie.Need-shared-slice-read-generic
+shared-slice-read-generic c = omega (arith, inside (c .before), c .before .before .before .before .before .before .before .before .before .before .before .before .before .pre)
 
 returns-3 : tie.Need-returns-3
 returns-3 c bytes ambiguous ctx pairs diagnostics r lent place k s f =
     let t = c .before .before in
     let i = t .before .before .before .before in
     let l = i .before .before in
-    is-generic r (l .before .before .args .name) k (l .lookup .ensures _ _ _ _ _ lent place k s f) (i .id .given .1) (t .if1 .left)
+    is-generic r (l .before .before .before .before .before .args .name) k (l .lookup .ensures _ _ _ _ _ lent place k s f) (i .id .given .1) (t .if1 .left)
 
 pub find-head-spec : {M : Type 1} → statement M
 find-head-spec =
@@ -54,7 +54,7 @@ find-head-spec =
     sub-at
     (λ c. search needs)
     (λ c. search needs)
-    element-copy-out-generic
+    shared-slice-read-generic
     (λ c. search needs)
     (λ c. search needs)
     returns-3)

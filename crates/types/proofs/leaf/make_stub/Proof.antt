@@ -10,19 +10,19 @@ use Rattle.types.proofs.leaf.make_stub.Tie as tie
 returns : tie.Need-returns
 returns c bytes aliases pairs diagnostics none-yet lent place k s f =
     let d = c .before .before .before .before in
-    stub-refused f (d .before .before .before .before .pre .1) (d .before .before .named .ensures) (d .emit .ensures) _ _ (c .enum-told .given .1)
+    stub-refused f (d .before .before .before .before .before .pre .1) (d .before .before .named .ensures) (d .emit .ensures) _ _ (c .enum-told .given .1)
 
 one-number-requires : tie.Need-one-number-requires
 one-number-requires c κs =
     let d = c .before .before .before .before .before in
-    let n = d .before .before .before .before .pre .1 in
-    let a = d .before .before .before .before .args in
+    let n = d .before .before .before .before .before .pre .1 in
+    let a = d .before .before .before .before .before .args in
     omega (arith, room-taken (a .ctx) (now (a .results)) _ _ (d .emit .ensures .0) (c .before .put .given .1), n .few, n .most)
 
 returns-2 : tie.Need-returns-2
 returns-2 c bytes aliases pairs diagnostics none-yet lent place k s f =
     let d = c .before .before .before .before .before .before in
-    let pre = d .before .before .before .before .pre in
+    let pre = d .before .before .before .before .before .pre in
     rw (c .one-number .ensures)
     (stub-given f (pre .1) (d .before .before .named .ensures) (d .emit .ensures) _ _ (c .before .before .put .given .1) _ (pre .0) none-yet)
 
@@ -39,5 +39,6 @@ make-stub-spec =
     (λ c. search needs)
     (λ c. search needs)
     one-number-requires
+    (λ c. search needs)
     (λ c. search needs)
     returns-2)

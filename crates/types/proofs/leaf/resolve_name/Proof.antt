@@ -11,7 +11,7 @@ use Rattle.types.proofs.leaf.resolve_name.Tie as tie
 copy-type-requires : tie.Need-copy-type-requires
 copy-type-requires c κs =
     let p = c .before .before .before .before in
-    let s = p .before .before .before .before .pre .1 in
+    let s = p .before .before .before .before .before .before .before .pre .1 in
     copies-so s
     (alias-found
     (rw (c .before .before .first .given .1) at (p .find-name .ensures _ _ _ _ _ _ (s .reads) (s .lent) (s .place) (s .names) (s .state) (s .from))))
@@ -21,6 +21,11 @@ returns c bytes generics pairs reads lent place k s f =
     let p = c .before .before .before .before .before .before .before in
     let found = alias-found (rw (c .before .before .before .before .before .first .given .1) at (p .find-name .ensures _ _ _ _ _ _ reads lent place k s f)) in
     rw (name-type _ _ _ k (found .is)) (c .before .before .copy-type .ensures _ _ _ _ _ _ _ _ k s (found .resolved) f (found .stands))
+
+make-stub-requires : tie.Need-make-stub-requires
+make-stub-requires c κs =
+    let pre = c .before .before .before .before .before .before .before .before .before .before .before .pre in
+    (omega (arith, pre .0 .0, pre .1 .from .numbers-long), pre .0 .1)
 
 returns-2 : tie.Need-returns-2
 returns-2 c bytes generics pairs reads lent place k s f =
@@ -33,11 +38,11 @@ returns-2 c bytes generics pairs reads lent place k s f =
 
 returns-3 : tie.Need-returns-3
 returns-3 c bytes generics pairs reads lent place k s f =
-    let p = c .before .before .before .before .before .before .before in
-    let told = c .before .before .before .before .before .enum-told in
+    let p = c .before .before .before .before .before .before .before .before .before in
+    let told = c .before .before .before .before .before .before .before .enum-told in
     let is = stub-found (rw (told .given .1) at (p .find-name .ensures _ _ _ _ _ _ reads lent place k s f)) in
     rw (name-stub _ _ _ k is)
-    (c .before .before .make-stub .ensures _ _ _ _ (stub-unnumbered f _ (p .before .before .before .before .pre .0 .0) is) lent place k s f)
+    (c .before .before .before .before .make-stub .ensures _ _ _ _ (stub-unnumbered f _ is) lent place k s f)
 
 returns-4 : tie.Need-returns-4
 returns-4 c bytes generics pairs reads lent place k s f =
@@ -57,15 +62,19 @@ resolve-name-spec =
     (λ c κs. search needs)
     (λ c κs. search needs)
     (λ c. search needs)
-    (λ c κs. search needs)
+    make-stub-requires
     (λ c. search needs)
     (λ c κs. search needs)
+    (λ c. search needs)
     (λ c. search needs)
     returns
     (λ c. search needs)
+    (λ c. search needs)
     returns-2
     (λ c. search needs)
+    (λ c. search needs)
     returns-3
+    (λ c. search needs)
     (λ c. search needs)
     (λ c. search needs)
     returns-4)

@@ -14,7 +14,8 @@ use Rattle.types.specs.Standing.{held, Reads}
 use Rattle.types.specs.Steps.{IsType, IsLeaf, substitution}
 use borrow.Author.Tests.{eqb-true}
 use Rattle.book.proofs.Trees.{both-so}
-use Rattle.types.proofs.Nodes.{names-below, argument-is, only-child-is, left-child-is, right-child-is, span-is}
+use Rattle.types.proofs.Nodes.{leaf-names, argument-is, only-child-is, left-child-is, right-child-is, span-is}
+use Rattle.types.proofs.Heads.{generics-fit}
 use Rattle.types.proofs.Arms.{Turn, turn-of, turn-inside, turn-argument, arm-one, arm-two, arm-two-refused, arm-leaf, arm-head, arm-no-alias, arm-no-number}
 use Rattle.types.proofs.Arms.{too-deep, too-deep-inside, stands-behind, numbered-here, stands-so, not-both, head-alias}
 use borrow.Fn.Kinds.{In}
@@ -107,10 +108,10 @@ abbrev S : ℕ → Type 0
 S t = s.Else2 (s-claims t) (s-at t) s-reads.Post
 
 abbrev r-start : {t : ℕ} → R t → r.Start (r-claims t) (r-at t) r-reads.Post
-r-start c = c .before .before .before .before .before
+r-start c = c .before .before .before .before .before .before .before .before .before
 
 abbrev s-start : {t : ℕ} → S t → s.Start (s-claims t) (s-at t) s-reads.Post
-s-start c = c .before .before .before .before .before .before .before
+s-start c = c .before .before .before .before .before .before .before .before .before .before .before
 
 r-type : (t : ℕ) (c : R t) → IsType (now (r-start c .args .book)) (r-start c .args .n)
 r-type t c = r-start c .pre .1 .0 .0
@@ -166,13 +167,13 @@ s-turn t c =
 
 r-returns : (t : ℕ) → r.Need-returns (r-claims t) (r-at t) r-reads.Post
 r-returns t c =
-    let a = c .before .before .before .before .args in
+    let a = c .before .before .before .before .before .before .before .before .args in
     too-deep (c .if1 .taken) (now (a .book)) (a .scope) (now (a .aliases)) (a .ctx) _ (a .n) (a .span)
 
 r-find-head-requires : (t : ℕ) → r.Need-find-head-requires (r-claims t) (r-at t) r-reads.Post
 r-find-head-requires t c κs =
     let p = c .before .before .before in
-    (names-below (r-type t p) _ (p .record-at .ensures) .head-is (c .before .before .match .keys1), r-known t p .few)
+    generics-fit (r-known t p)
 
 r-resolve-type-expr-with-substitution-requires : (t : ℕ) → r.Need-resolve-type-expr-with-substitution-requires (r-claims t) (r-at t) r-reads.Post
 r-resolve-type-expr-with-substitution-requires t c κs =
@@ -198,29 +199,29 @@ r-resolve-type-expr-requires-2 t c κs =
 
 r-returns-2 : (t : ℕ) → r.Need-returns-2 (r-claims t) (r-at t) r-reads.Post
 r-returns-2 t c =
-    let p = c .before .before .before .before .before .before .before .before .before .before .before .before .before in
-    arm-two-refused (r-turn t p) _ (c .before .before .before .before .before .before .before .before .before .before .before .before .match .keys3) (c .before .before .before .before .before .before .before .before .before .before .before .span-at2 .ensures ∙ span-is (left-child-is (r-type t p) _ (p .record-at .ensures) (c .before .before .before .before .before .before .before .before .before .before .before .before .match .keys3)))
-    (c .before .before .before .before .before .before .resolve-type-expr2 .ensures) (c .enum-told3 .given .1)
+    let p = c .before .before .before .before .before .before .before .before .before .before .before .before .before .before .before in
+    arm-two-refused (r-turn t p) _ (c .before .before .before .before .before .before .before .before .before .before .before .before .before .before .match .keys3) (c .before .before .before .before .before .before .before .before .before .before .before .before .before .span-at2 .ensures ∙ span-is (left-child-is (r-type t p) _ (p .record-at .ensures) (c .before .before .before .before .before .before .before .before .before .before .before .before .before .before .match .keys3)))
+    (c .before .before .before .before .before .before .before .before .resolve-type-expr2 .ensures) (c .enum-told3 .given .1)
 
 r-resolve-type-expr-requires-3 : (t : ℕ) → r.Need-resolve-type-expr-requires-3 (r-claims t) (r-at t) r-reads.Post
 r-resolve-type-expr-requires-3 t c κs =
-    let p = c .before .before .before .before .before .before .before .before .before .before .before .before .before .before .before .before .before .before .before in
+    let p = c .before .before .before .before .before .before .before .before .before .before .before .before .before .before .before .before .before .before .before .before .before in
     let s = r-start p .pre .1 .1 in
-    let left = c .before .before .before .before .before .before .before .before .before .before .before .before .resolve-type-expr2 .ensures (s .lent) (s .place) (s .names) (s .state) (s .from) in (
+    let left = c .before .before .before .before .before .before .before .before .before .before .before .before .before .before .resolve-type-expr2 .ensures (s .lent) (s .place) (s .names) (s .state) (s .from) in (
       omega arith,
-      ((right-child-is (r-type t p) _ (p .record-at .ensures) (c .before .before .before .before .before .before .before .before .before .before .before .before .before .before .before .before .before .before .match .keys3), r-known t p), stands-behind _ _ left (c .before .before .before .before .before .before .one .given .1)),
+      ((right-child-is (r-type t p) _ (p .record-at .ensures) (c .before .before .before .before .before .before .before .before .before .before .before .before .before .before .before .before .before .before .before .before .match .keys3), r-known t p), stands-behind _ _ left (c .before .before .before .before .before .before .one .given .1)),
     )
 
 r-resolve-leaf-requires : (t : ℕ) → r.Need-resolve-leaf-requires (r-claims t) (r-at t) r-reads.Post
 r-resolve-leaf-requires t c κs =
     let p = c .before .before .before .before .before in
-    ((names-below (r-type t p) _ (p .record-at .ensures), numbered-here (r-known t p) (r-start p .pre .1 .1)), stands-so (r-known t p) (r-start p .pre .1 .1))
+    ((leaf-names (r-type t p) _ (p .record-at .ensures) (r-known t p), numbered-here (r-known t p) (r-start p .pre .1 .1)), stands-so (r-known t p) (r-start p .pre .1 .1))
 
 r-returns-3 : (t : ℕ) → r.Need-returns-3 (r-claims t) (r-at t) r-reads.Post
 r-returns-3 t c =
-    let p = c .before .before .before .before .before .before .before .before .before .before .before .before .before .before .before .before in
-    arm-head (r-turn t p) (c .before .before .before .before .before .before .before .before .before .before .before .before .find-head .result) _ _ (c .before .before .before .before .before .before .before .before .before .before .before .before .before .before .before .match .keys1) (c .before .before .before .before .before .before .before .before .before .before .before .before .find-head .ensures _ _ _ _ _ (r-known t p))
-    (c .before .before .before .before .before .before .before .before .before .before .head .given .1) (c .before .before .before .before .resolve-type-expr-with-substitution .ensures)
+    let p = c .before .before .before .before .before .before .before .before .before .before .before .before .before .before .before .before .before .before in
+    arm-head (r-turn t p) (c .before .before .before .before .before .before .before .before .before .before .before .before .before .before .find-head .result) _ _ (c .before .before .before .before .before .before .before .before .before .before .before .before .before .before .before .before .before .match .keys1) (c .before .before .before .before .before .before .before .before .before .before .before .before .before .before .find-head .ensures _ _ _ _ _ (r-known t p))
+    (c .before .before .before .before .before .before .before .before .before .before .before .before .head .given .1) (c .before .before .before .before .before .before .resolve-type-expr-with-substitution .ensures)
 
 r-returns-4 : (t : ℕ) → r.Need-returns-4 (r-claims t) (r-at t) r-reads.Post
 r-returns-4 t c =
@@ -236,48 +237,48 @@ r-returns-5 t c =
 
 r-returns-6 : (t : ℕ) → r.Need-returns-6 (r-claims t) (r-at t) r-reads.Post
 r-returns-6 t c =
-    let p = c .before .before .before .before .before .before .before .before .before .before .before .before .before .before .before in
-    arm-one (r-turn t p) (c .before .before .before .before .before .before .before .before .before .before .before .before .before .before .match .keys2) (c .before .before .before .before .before .before .before .before .before .before .before .before .before .span-at .ensures ∙ span-is (only-child-is (r-type t p) _ (p .record-at .ensures) (c .before .before .before .before .before .before .before .before .before .before .before .before .before .before .match .keys2)))
-    (c .before .before .before .before .before .before .before .before .resolve-type-expr .ensures) (c .before .before .over-one .ensures _ _ _)
+    let p = c .before .before .before .before .before .before .before .before .before .before .before .before .before .before .before .before .before in
+    arm-one (r-turn t p) (c .before .before .before .before .before .before .before .before .before .before .before .before .before .before .before .before .match .keys2) (c .before .before .before .before .before .before .before .before .before .before .before .before .before .before .before .span-at .ensures ∙ span-is (only-child-is (r-type t p) _ (p .record-at .ensures) (c .before .before .before .before .before .before .before .before .before .before .before .before .before .before .before .before .match .keys2)))
+    (c .before .before .before .before .before .before .before .before .before .before .resolve-type-expr .ensures) (c .before .before .over-one .ensures _ _ _)
 
 r-returns-7 : (t : ℕ) → r.Need-returns-7 (r-claims t) (r-at t) r-reads.Post
 r-returns-7 t c =
-    let p = c .before .before .before .before .before .before .before .before .before .before .before .before .before .before .before .before .before .before .before .before .before .before .before .before .before .before .before .before in
-    arm-two (r-turn t p) _ _ (c .before .before .before .before .before .before .before .before .before .before .before .before .before .before .before .before .before .before .before .before .before .before .before .before .before .before .before .match .keys3) (c .before .before .before .before .before .before .before .before .before .before .before .before .before .before .before .before .before .before .before .before .before .before .before .before .before .before .span-at2 .ensures ∙ span-is (left-child-is (r-type t p) _ (p .record-at .ensures) (c .before .before .before .before .before .before .before .before .before .before .before .before .before .before .before .before .before .before .before .before .before .before .before .before .before .before .before .match .keys3)))
-    (c .before .before .before .before .before .before .before .before .before .before .before .before .before .before .before .before .before .before .before .before .before .resolve-type-expr2 .ensures) (c .before .before .before .before .before .before .before .before .before .before .before .before .before .before .before .one .given .1)
-    (c .before .before .before .before .before .before .before .before .before .before .before .before .before .span-at3 .ensures ∙ span-is (right-child-is (r-type t p) _ (p .record-at .ensures) (c .before .before .before .before .before .before .before .before .before .before .before .before .before .before .before .before .before .before .before .before .before .before .before .before .before .before .before .match .keys3)))
-    (c .before .before .before .before .before .before .before .before .resolve-type-expr3 .ensures) (c .before .before .over-two .ensures _ _ _)
+    let p = c .before .before .before .before .before .before .before .before .before .before .before .before .before .before .before .before .before .before .before .before .before .before .before .before .before .before .before .before .before .before .before .before in
+    arm-two (r-turn t p) _ _ (c .before .before .before .before .before .before .before .before .before .before .before .before .before .before .before .before .before .before .before .before .before .before .before .before .before .before .before .before .before .before .before .match .keys3) (c .before .before .before .before .before .before .before .before .before .before .before .before .before .before .before .before .before .before .before .before .before .before .before .before .before .before .before .before .before .before .span-at2 .ensures ∙ span-is (left-child-is (r-type t p) _ (p .record-at .ensures) (c .before .before .before .before .before .before .before .before .before .before .before .before .before .before .before .before .before .before .before .before .before .before .before .before .before .before .before .before .before .before .before .match .keys3)))
+    (c .before .before .before .before .before .before .before .before .before .before .before .before .before .before .before .before .before .before .before .before .before .before .before .before .before .resolve-type-expr2 .ensures) (c .before .before .before .before .before .before .before .before .before .before .before .before .before .before .before .before .before .one .given .1)
+    (c .before .before .before .before .before .before .before .before .before .before .before .before .before .before .before .span-at3 .ensures ∙ span-is (right-child-is (r-type t p) _ (p .record-at .ensures) (c .before .before .before .before .before .before .before .before .before .before .before .before .before .before .before .before .before .before .before .before .before .before .before .before .before .before .before .before .before .before .before .match .keys3)))
+    (c .before .before .before .before .before .before .before .before .before .before .resolve-type-expr3 .ensures) (c .before .before .over-two .ensures _ _ _)
 
 r-returns-8 : (t : ℕ) → r.Need-returns-8 (r-claims t) (r-at t) r-reads.Post
 r-returns-8 t c =
-    let p = c .before .before .before .before .before .before .before .before .before .before in
-    let leaf : IsLeaf (p .record-at .result) = record { no-head = c .before .before .before .before .before .before .before .before .before .match .rest .0 .0 .1; no-child = c .before .before .before .before .before .before .before .before .before .match .rest .0 .1; no-children = c .before .before .before .before .before .before .before .before .before .match .rest .1 } in
-    arm-leaf (r-turn t p) leaf (c .before .before .before .before .resolve-leaf .ensures _ _ (r-known t p) leaf)
+    let p = c .before .before .before .before .before .before .before .before .before .before .before .before in
+    let leaf : IsLeaf (p .record-at .result) = record { no-head = c .before .before .before .before .before .before .before .before .before .before .before .match .rest .0 .0 .1; no-child = c .before .before .before .before .before .before .before .before .before .before .before .match .rest .0 .1; no-children = c .before .before .before .before .before .before .before .before .before .before .before .match .rest .1 } in
+    arm-leaf (r-turn t p) leaf (c .before .before .before .before .before .before .resolve-leaf .ensures _ _ (r-known t p) leaf)
 
 s-returns : (t : ℕ) → s.Need-returns (s-claims t) (s-at t) s-reads.Post
 s-returns t c =
-    let a = c .before .before .before .before .args in
+    let a = c .before .before .before .before .before .before .before .before .args in
     too-deep-inside (c .if1 .taken) (now (a .book)) (a .scope) (now (a .aliases)) (a .ctx) _ (a .n) (a .span) (substitution (a .parameter) (a .argument))
 
 s-resolve-type-expr-requires : (t : ℕ) → s.Need-resolve-type-expr-requires (s-claims t) (s-at t) s-reads.Post
 s-resolve-type-expr-requires t c κs =
-    let s = c .before .before .before .before .before .before .before .before .before .before .before in
+    let s = c .before .before .before .before .before .before .before .before .before .before .before .before .before .before .before in
     (omega arith, ((s .pre .1 .0 .1, s .pre .1 .0 .2), s .pre .1 .1))
 
 s-returns-2 : (t : ℕ) → s.Need-returns-2 (s-claims t) (s-at t) s-reads.Post
 s-returns-2 t c =
-    let p = c .before .before .before .before .before .before .before .before .before .before .before in
-    let s = c .before .before .before .before .before .before .before .before .before .before .before .before .before .before .before .before in
+    let p = c .before .before .before .before .before .before .before .before .before .before .before .before .before in
+    let s = c .before .before .before .before .before .before .before .before .before .before .before .before .before .before .before .before .before .before .before .before .before .before in
     let a = s .args in
-    let (is-4, is-it) = both-so _ _ (c .before .before .before .before .before .before .before .before .before .if2 .taken) in
+    let (is-4, is-it) = both-so _ _ (c .before .before .before .before .before .before .before .before .before .before .before .if2 .taken) in
     λ lent place k z from.
     rw (turn-argument (s .pre .1 .0 .0) (p .record-at .result) (p .record-at .ensures) (a .left) (p .before .if1 .left) (a .span) (a .parameter) (a .argument) (eqb-true _ _ is-4) (eqb-true _ _ is-it) (usedLimits (lent .results) (lent .diagnostics)) k z)
-    (c .before .before .before .before .resolve-type-expr .ensures lent place k z from)
+    (c .before .before .before .before .before .before .resolve-type-expr .ensures lent place k z from)
 
 s-find-head-requires : (t : ℕ) → s.Need-find-head-requires (s-claims t) (s-at t) s-reads.Post
 s-find-head-requires t c κs =
     let p = c .before .before .before in
-    (names-below (s-type t p) _ (p .before .before .record-at .ensures) .head-is (c .before .before .match .keys1), s-known t p .few)
+    generics-fit (s-known t p)
 
 s-resolve-type-expr-with-substitution-requires : (t : ℕ) → s.Need-resolve-type-expr-with-substitution-requires (s-claims t) (s-at t) s-reads.Post
 s-resolve-type-expr-with-substitution-requires t c κs =
@@ -294,38 +295,38 @@ s-resolve-type-expr-with-substitution-requires t c κs =
 s-resolve-type-expr-with-substitution-requires-2 : (t : ℕ) → s.Need-resolve-type-expr-with-substitution-requires-2 (s-claims t) (s-at t) s-reads.Post
 s-resolve-type-expr-with-substitution-requires-2 t c κs =
     let p = c .before .before .before .before .before .before in
-    (omega arith, ((only-child-is (s-type t p) _ (p .before .before .record-at .ensures) (c .before .before .before .before .before .match .keys2), s-start p .pre .1 .0 .1, s-known t p), s-start p .pre .1 .1))
+    (omega (arith, s-start p .pre .0), ((only-child-is (s-type t p) _ (p .before .before .record-at .ensures) (c .before .before .before .before .before .match .keys2), s-start p .pre .1 .0 .1, s-known t p), s-start p .pre .1 .1))
 
 s-resolve-type-expr-with-substitution-requires-3 : (t : ℕ) → s.Need-resolve-type-expr-with-substitution-requires-3 (s-claims t) (s-at t) s-reads.Post
 s-resolve-type-expr-with-substitution-requires-3 t c κs =
     let p = c .before .before .before .before .before .before in
-    (omega arith, ((left-child-is (s-type t p) _ (p .before .before .record-at .ensures) (c .before .before .before .before .before .match .keys3), s-start p .pre .1 .0 .1, s-known t p), s-start p .pre .1 .1))
+    (omega (arith, s-start p .pre .0), ((left-child-is (s-type t p) _ (p .before .before .record-at .ensures) (c .before .before .before .before .before .match .keys3), s-start p .pre .1 .0 .1, s-known t p), s-start p .pre .1 .1))
 
 s-returns-3 : (t : ℕ) → s.Need-returns-3 (s-claims t) (s-at t) s-reads.Post
 s-returns-3 t c =
-    let p = c .before .before .before .before .before .before .before .before .before .before .before .before .before in
-    arm-two-refused (s-turn t p) _ (c .before .before .before .before .before .before .before .before .before .before .before .before .match .keys3) (c .before .before .before .before .before .before .before .before .before .before .before .span-at2 .ensures ∙ span-is (left-child-is (s-type t p) _ (p .before .before .record-at .ensures) (c .before .before .before .before .before .before .before .before .before .before .before .before .match .keys3)))
-    (c .before .before .before .before .before .before .resolve-type-expr-with-substitution3 .ensures) (c .enum-told3 .given .1)
+    let p = c .before .before .before .before .before .before .before .before .before .before .before .before .before .before .before in
+    arm-two-refused (s-turn t p) _ (c .before .before .before .before .before .before .before .before .before .before .before .before .before .before .match .keys3) (c .before .before .before .before .before .before .before .before .before .before .before .before .before .span-at2 .ensures ∙ span-is (left-child-is (s-type t p) _ (p .before .before .record-at .ensures) (c .before .before .before .before .before .before .before .before .before .before .before .before .before .before .match .keys3)))
+    (c .before .before .before .before .before .before .before .before .resolve-type-expr-with-substitution3 .ensures) (c .enum-told3 .given .1)
 
 s-resolve-type-expr-with-substitution-requires-4 : (t : ℕ) → s.Need-resolve-type-expr-with-substitution-requires-4 (s-claims t) (s-at t) s-reads.Post
 s-resolve-type-expr-with-substitution-requires-4 t c κs =
-    let p = c .before .before .before .before .before .before .before .before .before .before .before .before .before .before .before .before .before .before .before in
+    let p = c .before .before .before .before .before .before .before .before .before .before .before .before .before .before .before .before .before .before .before .before .before in
     let s = s-start p .pre .1 .1 in
-    let left = c .before .before .before .before .before .before .before .before .before .before .before .before .resolve-type-expr-with-substitution3 .ensures (s .lent) (s .place) (s .names) (s .state) (s .from) in (
-      omega arith,
-      ((right-child-is (s-type t p) _ (p .before .before .record-at .ensures) (c .before .before .before .before .before .before .before .before .before .before .before .before .before .before .before .before .before .before .match .keys3), s-start p .pre .1 .0 .1, s-known t p), stands-behind _ _ left (c .before .before .before .before .before .before .one .given .1)),
+    let left = c .before .before .before .before .before .before .before .before .before .before .before .before .before .before .resolve-type-expr-with-substitution3 .ensures (s .lent) (s .place) (s .names) (s .state) (s .from) in (
+      omega (arith, s-start p .pre .0),
+      ((right-child-is (s-type t p) _ (p .before .before .record-at .ensures) (c .before .before .before .before .before .before .before .before .before .before .before .before .before .before .before .before .before .before .before .before .match .keys3), s-start p .pre .1 .0 .1, s-known t p), stands-behind _ _ left (c .before .before .before .before .before .before .one .given .1)),
     )
 
 s-resolve-leaf-requires : (t : ℕ) → s.Need-resolve-leaf-requires (s-claims t) (s-at t) s-reads.Post
 s-resolve-leaf-requires t c κs =
     let p = c .before .before .before .before .before in
-    ((names-below (s-type t p) _ (p .before .before .record-at .ensures), numbered-here (s-known t p) (s-start p .pre .1 .1)), stands-so (s-known t p) (s-start p .pre .1 .1))
+    ((leaf-names (s-type t p) _ (p .before .before .record-at .ensures) (s-known t p), numbered-here (s-known t p) (s-start p .pre .1 .1)), stands-so (s-known t p) (s-start p .pre .1 .1))
 
 s-returns-4 : (t : ℕ) → s.Need-returns-4 (s-claims t) (s-at t) s-reads.Post
 s-returns-4 t c =
-    let p = c .before .before .before .before .before .before .before .before .before .before .before .before .before .before .before .before in
-    arm-head (s-turn t p) (c .before .before .before .before .before .before .before .before .before .before .before .before .find-head .result) _ _ (c .before .before .before .before .before .before .before .before .before .before .before .before .before .before .before .match .keys1) (c .before .before .before .before .before .before .before .before .before .before .before .before .find-head .ensures _ _ _ _ _ (s-known t p))
-    (c .before .before .before .before .before .before .before .before .before .before .head .given .1) (c .before .before .before .before .resolve-type-expr-with-substitution .ensures)
+    let p = c .before .before .before .before .before .before .before .before .before .before .before .before .before .before .before .before .before .before in
+    arm-head (s-turn t p) (c .before .before .before .before .before .before .before .before .before .before .before .before .before .before .find-head .result) _ _ (c .before .before .before .before .before .before .before .before .before .before .before .before .before .before .before .before .before .match .keys1) (c .before .before .before .before .before .before .before .before .before .before .before .before .before .before .find-head .ensures _ _ _ _ _ (s-known t p))
+    (c .before .before .before .before .before .before .before .before .before .before .before .before .head .given .1) (c .before .before .before .before .before .before .resolve-type-expr-with-substitution .ensures)
 
 s-returns-5 : (t : ℕ) → s.Need-returns-5 (s-claims t) (s-at t) s-reads.Post
 s-returns-5 t c =
@@ -341,23 +342,42 @@ s-returns-6 t c =
 
 s-returns-7 : (t : ℕ) → s.Need-returns-7 (s-claims t) (s-at t) s-reads.Post
 s-returns-7 t c =
-    let p = c .before .before .before .before .before .before .before .before .before .before .before .before .before .before .before in
-    arm-one (s-turn t p) (c .before .before .before .before .before .before .before .before .before .before .before .before .before .before .match .keys2) (c .before .before .before .before .before .before .before .before .before .before .before .before .before .span-at .ensures ∙ span-is (only-child-is (s-type t p) _ (p .before .before .record-at .ensures) (c .before .before .before .before .before .before .before .before .before .before .before .before .before .before .match .keys2)))
-    (c .before .before .before .before .before .before .before .before .resolve-type-expr-with-substitution2 .ensures) (c .before .before .over-one .ensures _ _ _)
+    let p = c .before .before .before .before .before .before .before .before .before .before .before .before .before .before .before .before .before in
+    arm-one (s-turn t p) (c .before .before .before .before .before .before .before .before .before .before .before .before .before .before .before .before .match .keys2) (c .before .before .before .before .before .before .before .before .before .before .before .before .before .before .before .span-at .ensures ∙ span-is (only-child-is (s-type t p) _ (p .before .before .record-at .ensures) (c .before .before .before .before .before .before .before .before .before .before .before .before .before .before .before .before .match .keys2)))
+    (c .before .before .before .before .before .before .before .before .before .before .resolve-type-expr-with-substitution2 .ensures) (c .before .before .over-one .ensures _ _ _)
 
 s-returns-8 : (t : ℕ) → s.Need-returns-8 (s-claims t) (s-at t) s-reads.Post
 s-returns-8 t c =
-    let p = c .before .before .before .before .before .before .before .before .before .before .before .before .before .before .before .before .before .before .before .before .before .before .before .before .before .before .before .before in
-    arm-two (s-turn t p) _ _ (c .before .before .before .before .before .before .before .before .before .before .before .before .before .before .before .before .before .before .before .before .before .before .before .before .before .before .before .match .keys3) (c .before .before .before .before .before .before .before .before .before .before .before .before .before .before .before .before .before .before .before .before .before .before .before .before .before .before .span-at2 .ensures ∙ span-is (left-child-is (s-type t p) _ (p .before .before .record-at .ensures) (c .before .before .before .before .before .before .before .before .before .before .before .before .before .before .before .before .before .before .before .before .before .before .before .before .before .before .before .match .keys3)))
-    (c .before .before .before .before .before .before .before .before .before .before .before .before .before .before .before .before .before .before .before .before .before .resolve-type-expr-with-substitution3 .ensures) (c .before .before .before .before .before .before .before .before .before .before .before .before .before .before .before .one .given .1)
-    (c .before .before .before .before .before .before .before .before .before .before .before .before .before .span-at3 .ensures ∙ span-is (right-child-is (s-type t p) _ (p .before .before .record-at .ensures) (c .before .before .before .before .before .before .before .before .before .before .before .before .before .before .before .before .before .before .before .before .before .before .before .before .before .before .before .match .keys3)))
-    (c .before .before .before .before .before .before .before .before .resolve-type-expr-with-substitution4 .ensures) (c .before .before .over-two .ensures _ _ _)
+    let p = c .before .before .before .before .before .before .before .before .before .before .before .before .before .before .before .before .before .before .before .before .before .before .before .before .before .before .before .before .before .before .before .before in
+    arm-two (s-turn t p) _ _ (c .before .before .before .before .before .before .before .before .before .before .before .before .before .before .before .before .before .before .before .before .before .before .before .before .before .before .before .before .before .before .before .match .keys3) (c .before .before .before .before .before .before .before .before .before .before .before .before .before .before .before .before .before .before .before .before .before .before .before .before .before .before .before .before .before .before .span-at2 .ensures ∙ span-is (left-child-is (s-type t p) _ (p .before .before .record-at .ensures) (c .before .before .before .before .before .before .before .before .before .before .before .before .before .before .before .before .before .before .before .before .before .before .before .before .before .before .before .before .before .before .before .match .keys3)))
+    (c .before .before .before .before .before .before .before .before .before .before .before .before .before .before .before .before .before .before .before .before .before .before .before .before .before .resolve-type-expr-with-substitution3 .ensures) (c .before .before .before .before .before .before .before .before .before .before .before .before .before .before .before .before .before .one .given .1)
+    (c .before .before .before .before .before .before .before .before .before .before .before .before .before .before .before .span-at3 .ensures ∙ span-is (right-child-is (s-type t p) _ (p .before .before .record-at .ensures) (c .before .before .before .before .before .before .before .before .before .before .before .before .before .before .before .before .before .before .before .before .before .before .before .before .before .before .before .before .before .before .before .match .keys3)))
+    (c .before .before .before .before .before .before .before .before .before .before .resolve-type-expr-with-substitution4 .ensures) (c .before .before .over-two .ensures _ _ _)
 
 s-returns-9 : (t : ℕ) → s.Need-returns-9 (s-claims t) (s-at t) s-reads.Post
 s-returns-9 t c =
-    let p = c .before .before .before .before .before .before .before .before .before .before in
-    let leaf : IsLeaf (p .before .before .record-at .result) = record { no-head = c .before .before .before .before .before .before .before .before .before .match .rest .0 .0 .1; no-child = c .before .before .before .before .before .before .before .before .before .match .rest .0 .1; no-children = c .before .before .before .before .before .before .before .before .before .match .rest .1 } in
-    arm-leaf (s-turn t p) leaf (c .before .before .before .before .resolve-leaf .ensures _ _ (s-known t p) leaf)
+    let p = c .before .before .before .before .before .before .before .before .before .before .before .before in
+    let leaf : IsLeaf (p .before .before .record-at .result) = record { no-head = c .before .before .before .before .before .before .before .before .before .before .before .match .rest .0 .0 .1; no-child = c .before .before .before .before .before .before .before .before .before .before .before .match .rest .0 .1; no-children = c .before .before .before .before .before .before .before .before .before .before .before .match .rest .1 } in
+    arm-leaf (s-turn t p) leaf (c .before .before .before .before .before .before .resolve-leaf .ensures _ _ (s-known t p) leaf)
+
+-- behind two children the tables and slices are as long as they were
+r-same-length-16 : (t : ℕ) → r.Need-same-length-16 (r-claims t) (r-at t) r-reads.Post
+r-same-length-16 t c = c .before .before .before .before .before .before .before .before .before .numbers4 .given ∙ c .before .before .before .before .before .before .before .before .before .before .before .before .before .before .before .before .before .before .before .before .before .before .before .before .numbers3 .given
+
+r-same-length-17 : (t : ℕ) → r.Need-same-length-17 (r-claims t) (r-at t) r-reads.Post
+r-same-length-17 t c = c .before .results8 .given ∙ c .before .before .before .before .before .before .before .results7 .given ∙ c .before .before .before .before .before .before .before .before .before .before .before .before .before .before .before .before .before .before .before .before .before .before .results6 .given
+
+r-same-length-18 : (t : ℕ) → r.Need-same-length-18 (r-claims t) (r-at t) r-reads.Post
+r-same-length-18 t c = c .before .before .before .before .before .diagnostics6 .given ∙ c .before .before .before .before .before .before .before .before .before .before .before .before .before .before .before .before .before .before .before .before .diagnostics5 .given
+
+s-same-length-19 : (t : ℕ) → s.Need-same-length-19 (s-claims t) (s-at t) s-reads.Post
+s-same-length-19 t c = c .before .before .before .before .before .before .before .before .before .numbers5 .given ∙ c .before .before .before .before .before .before .before .before .before .before .before .before .before .before .before .before .before .before .before .before .before .before .before .before .numbers4 .given
+
+s-same-length-20 : (t : ℕ) → s.Need-same-length-20 (s-claims t) (s-at t) s-reads.Post
+s-same-length-20 t c = c .before .results9 .given ∙ c .before .before .before .before .before .before .before .results8 .given ∙ c .before .before .before .before .before .before .before .before .before .before .before .before .before .before .before .before .before .before .before .before .before .before .results7 .given
+
+s-same-length-21 : (t : ℕ) → s.Need-same-length-21 (s-claims t) (s-at t) s-reads.Post
+s-same-length-21 t c = c .before .before .before .before .before .diagnostics7 .given ∙ c .before .before .before .before .before .before .before .before .before .before .before .before .before .before .before .before .before .before .before .before .diagnostics6 .given
 
 pub +resolve-type-expr+resolve-type-expr-with-substitution-spec : {M : Type 1} → statement M
 +resolve-type-expr+resolve-type-expr-with-substitution-spec =
@@ -385,6 +405,7 @@ pub +resolve-type-expr+resolve-type-expr-with-substitution-spec : {M : Type 1} �
     (λ c. search needs)
     (λ c. search needs)
     (λ c. search needs)
+    (λ c. search needs)
     (r-returns-2 t)
     (λ c. search needs)
     (λ c κs. search needs)
@@ -393,19 +414,25 @@ pub +resolve-type-expr+resolve-type-expr-with-substitution-spec : {M : Type 1} �
     (r-resolve-leaf-requires t)
     (λ c. search needs)
     (λ c. search needs)
+    (λ c. search needs)
     (r-returns-3 t)
+    (λ c. search needs)
     (λ c. search needs)
     (λ c. search needs)
     (r-returns-4 t)
     (λ c. search needs)
     (λ c. search needs)
+    (λ c. search needs)
     (r-returns-5 t)
     (λ c. search needs)
     (λ c. search needs)
+    (λ c. search needs)
     (r-returns-6 t)
-    (λ c. search needs)
-    (λ c. search needs)
+    (r-same-length-16 t)
+    (r-same-length-17 t)
+    (r-same-length-18 t)
     (r-returns-7 t)
+    (λ c. search needs)
     (λ c. search needs)
     (λ c. search needs)
     (r-returns-8 t))
@@ -415,6 +442,7 @@ pub +resolve-type-expr+resolve-type-expr-with-substitution-spec : {M : Type 1} �
     (λ c κs. search needs)
     (λ c. search needs)
     (s-resolve-type-expr-requires t)
+    (λ c. search needs)
     (λ c. search needs)
     (λ c. search needs)
     (s-returns-2 t)
@@ -437,6 +465,7 @@ pub +resolve-type-expr+resolve-type-expr-with-substitution-spec : {M : Type 1} �
     (λ c. search needs)
     (λ c. search needs)
     (λ c. search needs)
+    (λ c. search needs)
     (s-returns-3 t)
     (λ c. search needs)
     (λ c κs. search needs)
@@ -445,19 +474,25 @@ pub +resolve-type-expr+resolve-type-expr-with-substitution-spec : {M : Type 1} �
     (s-resolve-leaf-requires t)
     (λ c. search needs)
     (λ c. search needs)
+    (λ c. search needs)
     (s-returns-4 t)
+    (λ c. search needs)
     (λ c. search needs)
     (λ c. search needs)
     (s-returns-5 t)
     (λ c. search needs)
     (λ c. search needs)
+    (λ c. search needs)
     (s-returns-6 t)
     (λ c. search needs)
     (λ c. search needs)
+    (λ c. search needs)
     (s-returns-7 t)
-    (λ c. search needs)
-    (λ c. search needs)
+    (s-same-length-19 t)
+    (s-same-length-20 t)
+    (s-same-length-21 t)
     (s-returns-8 t)
+    (λ c. search needs)
     (λ c. search needs)
     (λ c. search needs)
     (s-returns-9 t))

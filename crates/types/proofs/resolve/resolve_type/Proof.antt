@@ -19,7 +19,7 @@ returns : tie.Need-returns
 unfolding resolveType
 returns c =
     let p = c .before .before .before .before .before .before .before in
-    let s = p .before .before .before .before in
+    let s = p .before .before .before .before .before .before .before .before in
     let a = s .args in
     let r = p .record-at .result in
     let i = c .before .before .before .before .before .if1 .taken in
@@ -48,8 +48,8 @@ returns c =
 returns-2 : tie.Need-returns-2
 unfolding resolveType
 returns-2 c =
-    let p = c .before .before .before .before .before .before .before .before .before .before .before in
-    rw (ap (λ r. r .span) (p .record-at .ensures) ∙ span-is (p .before .before .before .before .pre .0 .0)) at (c .before .before .before .before .resolve-type-expr .ensures)
+    let p = c .before .before .before .before .before .before .before .before .before .before .before .before .before in
+    rw (ap (λ r. r .span) (p .record-at .ensures) ∙ span-is (p .before .before .before .before .before .before .before .before .pre .0 .0)) at (c .before .before .before .before .before .before .resolve-type-expr .ensures)
 
 pub resolve-type-spec : {M : Type 1} → statement M
 resolve-type-spec =
@@ -61,6 +61,7 @@ resolve-type-spec =
     (λ c. search needs)
     returns
     (λ c κs. search needs)
+    (λ c. search needs)
     (λ c. search needs)
     (λ c. search needs)
     returns-2)
