@@ -8,7 +8,7 @@ use native.Mathlib.Decide.{ℕ-discrete}
 use native.Mathlib.Numerals.{add-one}
 use native.Mathlib.Omega.{arith}
 use lib.Dec.{ltb}
-use lib.ListN.{length}
+use lib.ListN.{length, getD}
 use borrow.Author.Tests.{ltb-true, leb-true, lt-ltb, le-leb}
 use Rattle.record.specs.declared.Record.{Record}
 use Rattle.record.specs.Layout.{recordAt}
@@ -17,7 +17,9 @@ use Rattle.book.specs.Blocks.{recordCount}
 use Rattle.book.specs.Faults.{isDeclaration}
 use Rattle.book.specs.Outline.{Book, read, _!_, isOneOf, numbersOf, items}
 use Rattle.book.specs.Trees.{Readable}
+use Rattle.book.specs.Ahead.{isOutside, Ahead}
 use Rattle.book.proofs.Places.{one-of}
+use Rattle.book.proofs.Skips.{skip-to-declaration, skip-to-outside}
 use Rattle.book.proofs.Trees.{not-so, both-so}
 use Rattle.types.specs.declared.LowerCtx.{LowerCtx}
 use Rattle.types.specs.declared.Scope.{Scope}
@@ -239,3 +241,21 @@ module _ {bytes : List ℕ} (readable : Readable bytes) {n : ℕ} (less : n < re
   items-stop e =
       let is : isDeclaration r ≡ true = sym (declaration-between r) ∙ e in
       rw (some-left, there-is readable less is-at, is)
+
+-- on to the next declaration, and to the next declaration or item: what is in between is none
+module _ {bytes : List ℕ} (readable : Readable bytes) {n : ℕ} (less : n < recordCount bytes) where
+  pub types-skip : {ahead : List ℕ} → Ahead isDeclaration bytes ahead → typesFrom (read bytes) (n + 1) ≡ typesFrom (read bytes) (getD ahead n 0)
+  types-skip a =
+      skip-to-declaration readable (λ k. typesFrom (read bytes) (n + 1) ≡ typesFrom (read bytes) k) n less a
+      (λ k here none same.
+      same ∙ types-next readable here {r = recordAt bytes k} refl (not-so _ (λ e. let (low, high) = is-between 19 (recordAt bytes k .kind) 23 e in none low (omega arith))))
+      refl
+
+  pub items-skip : {onward : List ℕ} → Ahead isOutside bytes onward → itemsFrom (read bytes) (n + 1) ≡ itemsFrom (read bytes) (getD onward n 0)
+  items-skip a =
+      skip-to-outside readable (λ k. itemsFrom (read bytes) (n + 1) ≡ itemsFrom (read bytes) k) n less a
+      (λ k here tree same.
+      let low : (b : ℕ) (a : ℕ) → 16 < a → between a (recordAt bytes k .kind) b ≡ false = λ b a from.
+      not-so _ (λ e. let (above, below) = is-between a (recordAt bytes k .kind) b e in omega arith) in
+      same ∙ items-next readable here {r = recordAt bytes k} refl (low 26 19 (omega arith)) (low 34 30 (omega arith)))
+      refl

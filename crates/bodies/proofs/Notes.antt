@@ -8,7 +8,7 @@ use mathlib.Core.Path.{_≡_, refl, sym, ap, _∙_}
 use native.Mathlib.Numerals.{add-one}
 use native.Mathlib.Omega.{arith}
 use lib.Dec.{ltb, eqb}
-use lib.ListN.{length, drop, drop-of-length-le}
+use lib.ListN.{length, drop, getD, drop-of-length-le}
 use lib.Seq.{drop-cons}
 use borrow.Author.Tests.{ltb-true, ltb-false, eqb-true, eqb-false, lt-ltb, le-ltb, ne-eqb}
 use Rattle.record.specs.declared.Record.{Record}
@@ -18,6 +18,8 @@ use Rattle.book.specs.Blocks.{recordCount, records}
 use Rattle.book.specs.Faults.{recordOf, isKind}
 use Rattle.book.specs.Outline.{Book, read, isOneOf, notes}
 use Rattle.book.specs.Trees.{Readable}
+use Rattle.book.specs.Ahead.{isOutside, Ahead}
+use Rattle.book.proofs.Skips.{skip-to-outside}
 
 -- a record that is no part of a tree
 abbrev looked : Record → Bool
@@ -154,3 +156,12 @@ module _ {bytes : List ℕ} (readable : Readable bytes) where
     pub notes-over : 16 < r .kind → NoNote (r .kind) → notesFrom (read bytes) m ≡ []
     unfolding keepWhile
     notes-over high other = rw (lt-ltb 16 (r .kind) high, no-note r other) at on
+
+-- on to the next declaration or item: parts of trees are passed
+pub notes-skip :
+    {bytes : List ℕ} → Readable bytes → {m : ℕ} → m < recordCount bytes → {onward : List ℕ} → Ahead isOutside bytes onward →
+    notesFrom (read bytes) (m + 1) ≡ notesFrom (read bytes) (getD onward m 0)
+notes-skip {bytes} readable {m} less a =
+    skip-to-outside readable (λ k. notesFrom (read bytes) (m + 1) ≡ notesFrom (read bytes) k) m less a
+    (λ k here tree same. same ∙ notes-passed readable here {r = recordAt bytes k} refl tree)
+    refl

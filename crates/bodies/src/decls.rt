@@ -2,6 +2,8 @@
 
 ghost use mathlib.Core.Path.{_≡_};
 ghost use Rattle.book.specs.Blocks.{recordCount};
+ghost use Rattle.book.specs.Faults.{isDeclaration};
+ghost use Rattle.book.specs.Ahead.{isOutside, Ahead};
 ghost use Rattle.book.specs.Outline.{read, items};
 ghost use Rattle.types.specs.Step.{forEach};
 ghost use Rattle.types.specs.Standing.{held, Reads, Stands};
@@ -23,6 +25,7 @@ use types::resolve;
 fn lower_items(
     book: &[u8],
     count: u16,
+    onward: &[u16],
     n: u16,
     delta: bool,
     scope: Scope,
@@ -35,7 +38,7 @@ fn lower_items(
     results: &mut [u8],
     diagnostics: &mut [u8],
 ) -> Part
-    requires { ⌜ IsDecl (now book) n × (count ≡ recordCount (now book)) ⌝ }
+    requires { ⌜ IsDecl (now book) n × (count ≡ recordCount (now book)) × Ahead isOutside (now book) (now onward) ⌝ }
     requires { ⌜ Reads (now book) scope (now ambiguous) (now generics) ⌝ }
     requires { ⌜ Stands (now book) scope (now aliases) ctx (held (now numbers) (now pairs) (now results) (now diagnostics)) ⌝ }
     ensures { λ r. ⌜ LowersPart (now (book .entry)) scope (now (aliases .entry)) ctx
@@ -44,7 +47,8 @@ fn lower_items(
         (held (now (numbers .exit)) (now (pairs .exit)) (now (results .exit)) (now (diagnostics .exit))) ⌝ }
 {
     let mut behind = ctx;
-    let mut m = n + 1;
+    let place = n as usize;
+    let mut m = onward[place];
     while m < count {
         let kind = record::kind_at(book, m);
         if (19 < kind) & (kind < 26) {
@@ -54,6 +58,7 @@ fn lower_items(
             let lowered = items::lower_item(
                 book,
                 count,
+                onward,
                 m,
                 delta,
                 scope,
@@ -73,7 +78,8 @@ fn lower_items(
                 Lowered::Stopped(stop) => return Part::Refused { stop, place: m },
             }
         }
-        m += 1;
+        let here = m as usize;
+        m = onward[here];
     }
     Part::Lowered(behind)
 }
@@ -82,6 +88,7 @@ fn lower_items(
 fn lower_message(
     book: &[u8],
     count: u16,
+    onward: &[u16],
     n: u16,
     scope: Scope,
     ctx: LowerCtx,
@@ -93,7 +100,7 @@ fn lower_message(
     results: &mut [u8],
     diagnostics: &mut [u8],
 ) -> Part
-    requires { ⌜ IsAt 20 (now book) n × (count ≡ recordCount (now book)) ⌝ }
+    requires { ⌜ IsAt 20 (now book) n × (count ≡ recordCount (now book)) × Ahead isOutside (now book) (now onward) ⌝ }
     requires { ⌜ Reads (now book) scope (now ambiguous) (now generics) ⌝ }
     requires { ⌜ Stands (now book) scope (now aliases) ctx (held (now numbers) (now pairs) (now results) (now diagnostics)) ⌝ }
     ensures { λ r. ⌜ LowersBody (now (book .entry)) scope (now (aliases .entry)) ctx
@@ -102,11 +109,12 @@ fn lower_message(
         (held (now (numbers .exit)) (now (pairs .exit)) (now (results .exit)) (now (diagnostics .exit))) ⌝ }
 {
     let r = record::record_at(book, n);
-    let delta = encodings::has_delta(book, count, n);
+    let delta = encodings::has_delta(book, count, onward, n);
     match emits::emit_last(emits::carried(42, r.a, 0, 0, r), ctx, results) {
         Lowered::Done(behind) => lower_items(
             book,
             count,
+            onward,
             n,
             delta,
             scope,
@@ -127,6 +135,7 @@ fn lower_message(
 fn lower_union(
     book: &[u8],
     count: u16,
+    onward: &[u16],
     n: u16,
     scope: Scope,
     ctx: LowerCtx,
@@ -138,7 +147,7 @@ fn lower_union(
     results: &mut [u8],
     diagnostics: &mut [u8],
 ) -> Part
-    requires { ⌜ IsAt 21 (now book) n × (count ≡ recordCount (now book)) ⌝ }
+    requires { ⌜ IsAt 21 (now book) n × (count ≡ recordCount (now book)) × Ahead isOutside (now book) (now onward) ⌝ }
     requires { ⌜ Reads (now book) scope (now ambiguous) (now generics) ⌝ }
     requires { ⌜ Stands (now book) scope (now aliases) ctx (held (now numbers) (now pairs) (now results) (now diagnostics)) ⌝ }
     ensures { λ r. ⌜ LowersBody (now (book .entry)) scope (now (aliases .entry)) ctx
@@ -151,6 +160,7 @@ fn lower_union(
         Lowered::Done(behind) => lower_items(
             book,
             count,
+            onward,
             n,
             false,
             scope,
@@ -215,6 +225,7 @@ fn lower_newtype(
 fn lower_decl(
     book: &[u8],
     count: u16,
+    onward: &[u16],
     n: u16,
     scope: Scope,
     ctx: LowerCtx,
@@ -226,7 +237,7 @@ fn lower_decl(
     results: &mut [u8],
     diagnostics: &mut [u8],
 ) -> Part
-    requires { ⌜ IsDecl (now book) n × (count ≡ recordCount (now book)) ⌝ }
+    requires { ⌜ IsDecl (now book) n × (count ≡ recordCount (now book)) × Ahead isOutside (now book) (now onward) ⌝ }
     requires { ⌜ Reads (now book) scope (now ambiguous) (now generics) ⌝ }
     requires { ⌜ Stands (now book) scope (now aliases) ctx (held (now numbers) (now pairs) (now results) (now diagnostics)) ⌝ }
     ensures { λ r. ⌜ LowersPart (now (book .entry)) scope (now (aliases .entry)) ctx
@@ -239,6 +250,7 @@ fn lower_decl(
         20 => lower_message(
             book,
             count,
+            onward,
             n,
             scope,
             ctx,
@@ -253,6 +265,7 @@ fn lower_decl(
         21 => lower_union(
             book,
             count,
+            onward,
             n,
             scope,
             ctx,
@@ -286,10 +299,13 @@ fn lower_decl(
     }
 }
 
-// Lowers the messages, unions and newtypes of a book, in its order.
+// Lowers the messages, unions and newtypes of a book, in its order. `ahead` has the next declaration behind each record, and
+// `onward` the next declaration or item.
 pub fn lower_bodies(
     book: &[u8],
     count: u16,
+    ahead: &[u16],
+    onward: &[u16],
     scope: Scope,
     ctx: LowerCtx,
     ambiguous: &[bool],
@@ -300,7 +316,7 @@ pub fn lower_bodies(
     results: &mut [u8],
     diagnostics: &mut [u8],
 ) -> Part
-    requires { ⌜ count ≡ recordCount (now book) ⌝ }
+    requires { ⌜ (count ≡ recordCount (now book)) × Ahead isDeclaration (now book) (now ahead) × Ahead isOutside (now book) (now onward) ⌝ }
     requires { ⌜ Reads (now book) scope (now ambiguous) (now generics) ⌝ }
     requires { ⌜ Stands (now book) scope (now aliases) ctx (held (now numbers) (now pairs) (now results) (now diagnostics)) ⌝ }
     ensures { λ r. ⌜ LowersPart (now (book .entry)) scope (now (aliases .entry)) ctx
@@ -316,6 +332,7 @@ pub fn lower_bodies(
             let lowered = lower_decl(
                 book,
                 count,
+                onward,
                 n,
                 scope,
                 behind,
@@ -334,7 +351,8 @@ pub fn lower_bodies(
                 Part::Refused { stop, place } => return Part::Refused { stop, place },
             }
         }
-        n += 1;
+        let here = n as usize;
+        n = ahead[here];
     }
     Part::Lowered(behind)
 }

@@ -7,6 +7,7 @@ ghost use Prim.Native.Nat.{_<_};
 ghost use lib.ListN.{getD};
 ghost use Rattle.record.specs.declared.Record.{Record};
 ghost use Rattle.book.specs.Blocks.{recordCount};
+ghost use Rattle.book.specs.Ahead.{isOutside, Ahead};
 ghost use Rattle.book.specs.Faults.{isKind};
 ghost use Rattle.book.specs.Outline.{read, notes};
 ghost use Rattle.book.specs.Trees.{Readable};
@@ -144,9 +145,10 @@ fn with_argument(seen: Annotations, r: Record) -> Annotations
     }
 }
 
-// The annotations of the message or field at record n, which stand behind it.
-fn annotations_of(book: &[u8], count: u16, n: u16) -> Annotations
-    requires { ⌜ Readable (now book) × (count ≡ recordCount (now book)) × (n < count) ⌝ }
+// The annotations of the message or field at record n, which stand behind it; `onward` has the next declaration or item
+// behind each record.
+fn annotations_of(book: &[u8], count: u16, onward: &[u16], n: u16) -> Annotations
+    requires { ⌜ Readable (now book) × (count ≡ recordCount (now book)) × (n < count) × Ahead isOutside (now book) (now onward) ⌝ }
     ensures { λ r. ⌜ Sees (notes (read (now (book .entry))) n) [] r ⌝ }
 {
     let mut seen = Annotations {
@@ -157,7 +159,8 @@ fn annotations_of(book: &[u8], count: u16, n: u16) -> Annotations
         limited: false,
         limit: 0,
     };
-    let mut m = n + 1;
+    let place = n as usize;
+    let mut m = onward[place];
     while m < count {
         let kind = record::kind_at(book, m);
         match kind {
@@ -172,17 +175,18 @@ fn annotations_of(book: &[u8], count: u16, n: u16) -> Annotations
             0..=16 | 30 | 36 => {}
             _ => return seen,
         }
-        m += 1;
+        let here = m as usize;
+        m = onward[here];
     }
     seen
 }
 
 // Whether the message at record n has delta.
-pub(crate) fn has_delta(book: &[u8], count: u16, n: u16) -> bool
-    requires { ⌜ Readable (now book) × (count ≡ recordCount (now book)) × (n < count) ⌝ }
+pub(crate) fn has_delta(book: &[u8], count: u16, onward: &[u16], n: u16) -> bool
+    requires { ⌜ Readable (now book) × (count ≡ recordCount (now book)) × (n < count) × Ahead isOutside (now book) (now onward) ⌝ }
     ensures { λ r. ⌜ r ≡ hasAnnotation 2 (notes (read (now (book .entry))) n) ⌝ }
 {
-    let seen = annotations_of(book, count, n);
+    let seen = annotations_of(book, count, onward, n);
     seen.delta
 }
 
@@ -200,11 +204,16 @@ fn base_encoding(varint: bool, zigzag: bool) -> Encoding
 }
 
 // The encoding of the field at record n. Varint wins over zigzag.
-pub(crate) fn compute_field_encoding(book: &[u8], count: u16, n: u16) -> FieldEncoding
-    requires { ⌜ Readable (now book) × (count ≡ recordCount (now book)) × (n < count) ⌝ }
+pub(crate) fn compute_field_encoding(
+    book: &[u8],
+    count: u16,
+    onward: &[u16],
+    n: u16,
+) -> FieldEncoding
+    requires { ⌜ Readable (now book) × (count ≡ recordCount (now book)) × (n < count) × Ahead isOutside (now book) (now onward) ⌝ }
     ensures { λ r. ⌜ fieldEncodingOf r ≡ computeFieldEncoding (notes (read (now (book .entry))) n) ⌝ }
 {
-    let seen = annotations_of(book, count, n);
+    let seen = annotations_of(book, count, onward, n);
     let encoding = base_encoding(seen.varint, seen.zigzag);
     FieldEncoding {
         encoding,

@@ -4,10 +4,13 @@ ghost use mathlib.Core.Path.{_≡_};
 ghost use mathlib.Core.List.{List};
 ghost use Prim.Native.Nat.{ℕ, _<_};
 ghost use Rattle.book.specs.Blocks.{recordCount};
+ghost use Rattle.book.specs.Ahead.{isOutside, Ahead};
 ghost use Rattle.book.specs.Outline.{read, notes};
 ghost use Rattle.book.specs.Trees.{Readable};
 ghost use Rattle.types.specs.declared.Scope.{Scope};
-ghost use Rattle.types.specs.Standing.{held, Reads, Stands};
+ghost use Rattle.types.specs.Resolve.{resolveType};
+ghost use Rattle.types.specs.Standing.{held, Reads, Stands, Resolves};
+ghost use Rattle.types.specs.Steps.{IsType};
 ghost use Rattle.types.specs.Lowers.{WritesOne, LowersHere, LowersAt};
 ghost use Rattle.bodies.specs.Bodies.{firstString, lowerField, lowerTombstone, lowerVariant, lowerItem};
 ghost use Rattle.bodies.specs.Lowers.{IsAt, IsItem, MaybeType, maybeType, FinishesField};
@@ -28,20 +31,21 @@ use types::resolve;
 fn finish_field(
     book: &[u8],
     count: u16,
+    onward: &[u16],
     n: u16,
     delta: bool,
     root: u16,
     ctx: LowerCtx,
     results: &mut [u8],
 ) -> Lowered
-    requires { ⌜ IsAt 31 (now book) n × (count ≡ recordCount (now book)) ⌝ }
+    requires { ⌜ IsAt 31 (now book) n × (count ≡ recordCount (now book)) × Ahead isOutside (now book) (now onward) ⌝ }
     ensures { λ x. ⌜ ((numbers pairs diagnostics : List ℕ) →
         FinishesField (now (book .entry)) delta n root ctx (held numbers pairs (now (results .entry)) diagnostics) x
         (held numbers pairs (now (results .exit)) diagnostics)) ⌝ }
 {
     let r = record::record_at(book, n);
     let shape = write::written_at(results, root);
-    let own = encodings::compute_field_encoding(book, count, n);
+    let own = encodings::compute_field_encoding(book, count, onward, n);
     let encoding = encodings::under_delta(delta, shape.kind, shape.sub, own);
     match where_expr::lower_constraint(book, r.c, ctx, results) {
         Resolved::Root(c, behind) => {
@@ -57,10 +61,51 @@ fn finish_field(
     }
 }
 
+// The type at record n of a field. Primitive, sub-byte and semantic types, which most are, take no further step.
+fn field_type(
+    book: &[u8],
+    n: u16,
+    scope: Scope,
+    ctx: LowerCtx,
+    ambiguous: &[bool],
+    aliases: &[u32],
+    generics: &[u32],
+    numbers: &mut [u32],
+    pairs: &mut [u32; RESULTS],
+    results: &mut [u8],
+    diagnostics: &mut [u8],
+) -> Resolved
+    requires { ⌜ IsType (now book) n × Reads (now book) scope (now ambiguous) (now generics) ⌝ }
+    requires { ⌜ Stands (now book) scope (now aliases) ctx (held (now numbers) (now pairs) (now results) (now diagnostics)) ⌝ }
+    ensures { λ r. ⌜ Resolves (now (book .entry)) scope (now (aliases .entry)) ctx
+        (held (now (numbers .entry)) (now (pairs .entry)) (now (results .entry)) (now (diagnostics .entry)))
+        (resolveType (read (now (book .entry))) n) r
+        (held (now (numbers .exit)) (now (pairs .exit)) (now (results .exit)) (now (diagnostics .exit))) ⌝ }
+{
+    let r = record::record_at(book, n);
+    if r.kind < 4 {
+        return resolve::plain_type(r, ctx, results);
+    }
+    resolve::resolve_type(
+        book,
+        n,
+        scope,
+        ctx,
+        ambiguous,
+        aliases,
+        generics,
+        numbers,
+        pairs,
+        results,
+        diagnostics,
+    )
+}
+
 // Lowers the field at record n.
 fn lower_field(
     book: &[u8],
     count: u16,
+    onward: &[u16],
     n: u16,
     delta: bool,
     scope: Scope,
@@ -73,7 +118,7 @@ fn lower_field(
     results: &mut [u8],
     diagnostics: &mut [u8],
 ) -> Lowered
-    requires { ⌜ IsAt 31 (now book) n × (count ≡ recordCount (now book)) ⌝ }
+    requires { ⌜ IsAt 31 (now book) n × (count ≡ recordCount (now book)) × Ahead isOutside (now book) (now onward) ⌝ }
     requires { ⌜ Reads (now book) scope (now ambiguous) (now generics) ⌝ }
     requires { ⌜ Stands (now book) scope (now aliases) ctx (held (now numbers) (now pairs) (now results) (now diagnostics)) ⌝ }
     ensures { λ r. ⌜ LowersHere (now (book .entry)) scope (now (aliases .entry)) ctx
@@ -82,7 +127,7 @@ fn lower_field(
         (held (now (numbers .exit)) (now (pairs .exit)) (now (results .exit)) (now (diagnostics .exit))) ⌝ }
 {
     let r = record::record_at(book, n);
-    let found = resolve::resolve_type(
+    let found = field_type(
         book,
         r.b,
         scope,
@@ -97,7 +142,7 @@ fn lower_field(
     );
     match found {
         Resolved::Root(root, behind) => {
-            finish_field(book, count, n, delta, root, behind, results)
+            finish_field(book, count, onward, n, delta, root, behind, results)
         }
         Resolved::Stopped(stop) => Lowered::Stopped(stop),
     }
@@ -225,6 +270,7 @@ fn lower_variant(book: &[u8], n: u16, ctx: LowerCtx, results: &mut [u8]) -> Lowe
 pub(crate) fn lower_item(
     book: &[u8],
     count: u16,
+    onward: &[u16],
     n: u16,
     delta: bool,
     scope: Scope,
@@ -237,7 +283,7 @@ pub(crate) fn lower_item(
     results: &mut [u8],
     diagnostics: &mut [u8],
 ) -> Lowered
-    requires { ⌜ IsItem (now book) n × (count ≡ recordCount (now book)) ⌝ }
+    requires { ⌜ IsItem (now book) n × (count ≡ recordCount (now book)) × Ahead isOutside (now book) (now onward) ⌝ }
     requires { ⌜ Reads (now book) scope (now ambiguous) (now generics) ⌝ }
     requires { ⌜ Stands (now book) scope (now aliases) ctx (held (now numbers) (now pairs) (now results) (now diagnostics)) ⌝ }
     ensures { λ r. ⌜ LowersAt (now (book .entry)) scope (now (aliases .entry)) ctx
@@ -250,6 +296,7 @@ pub(crate) fn lower_item(
         31 => lower_field(
             book,
             count,
+            onward,
             n,
             delta,
             scope,

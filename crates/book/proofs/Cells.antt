@@ -7,7 +7,7 @@ use mathlib.Core.Option.{Option, some}
 use mathlib.Core.Path.{_≡_, refl, sym, ap, _∙_}
 use native.Mathlib.Numerals.{add-one}
 use native.Mathlib.Omega.{arith}
-use lib.Dec.{leb, ltb, eqb}
+use lib.Dec.{leb, ltb, eqb, leb·zero}
 use lib.ListN.{length, drop, getD, List·getD-eq-default}
 use borrow.Author.Tests.{ltb-true, ltb-false, leb-false, eqb-true, eqb-false, lt-ltb, le-ltb, le-leb, lt-leb, ne-eqb}
 use Rattle.record.specs.declared.Record.{Record}
@@ -15,7 +15,9 @@ use Rattle.book.specs.Lists.{any, find, at}
 use Rattle.book.specs.Shape.{Group, type, constant, constraint, operand, declaration, item}
 use Rattle.book.specs.Shape.{Field, unused, flag, bits, name, name?, string, string?, ordinal, free, child, child?}
 use Rattle.book.specs.Shape.{Row, table, isRow, rowOf, allows, fits, childIn, groupNumber}
-use Rattle.book.specs.Rows.{rowAt, firstRow, fieldNumber, numbersOf, cellIn, groupIn, lasts, lastIn, ShapeTable}
+use Rattle.book.specs.Rows.{rowAt, firstRow, fieldNumber, numbersOf, cellIn, groupIn, lasts, lastIn, ShapeTable, FirstRows, Primitive}
+use Rattle.book.proofs.Filled.{tab, cell-at}
+use Rattle.book.proofs.Trees.{both-so}
 
 -- an element that is there stands at its number, and each number below the length has one
 module _ {A B : Type 0} (f : A → B) (d : B) where
@@ -113,6 +115,10 @@ shapes-are = record {
       ap (λ l. getD l k 0) (at-map numbersOf [] table i e) ∙ sym (cell-there i e k);
 }
 
+-- the code's list of first rows converts to the one that the rule fills
+pub firsts-are : FirstRows (tab (λ k. firstRow k table) 0 37)
+firsts-are = record { rows = cell-at (λ k. firstRow k table) 0 37 }
+
 -- a record is of a row, by the cells of the row
 pub in-row :
     (r : Record) (i : ℕ) {kind low high : ℕ} →
@@ -161,6 +167,23 @@ first-most k (w ∷ ws) = by (eqb k (w .kind)) (first-most k ws)
 pub first-from : (r : Record) {i : ℕ} → i ≡ firstRow (r .kind) table → (i ≤ 38) × (rowOf r ≡ rowFrom r i)
 unfolding rowOf
 first-from r e = (omega (arith, first-most (r .kind) table, rows), first-skips r table ∙ ap (rowFrom r) (sym e))
+
+-- the first row is that of primitive types
+pub primitive-is :
+    (r : Record) →
+    eqb (r .kind) 1 && leb (r .sub) 13 && eqb (r .a) 0 && eqb (r .b) 0 && eqb (r .c) 0 && eqb (r .v) 0 ≡ true → Primitive r
+unfolding rowAt rowOf table at find allows
+primitive-is r e =
+    let (before-v, v) = both-so _ _ e in
+    let (before-c, c) = both-so _ _ before-v in
+    let (before-b, b) = both-so _ _ before-c in
+    let (before-a, a) = both-so _ _ before-b in
+    let (kind, sub) = both-so _ _ before-a in
+    record {
+      kind-is = eqb-true (r .kind) 1 kind;
+      found = rw (kind, leb·zero (r .sub), sub, find);
+      fitting = rw (a, b, c, v);
+    }
 
 -- a kind that is above those of all rows has none
 first-none : (k m : ℕ) → m ≤ k → (ws : List Row) → any (λ w. leb m (w .kind)) ws ≡ false → firstRow k ws ≡ length ws

@@ -1,7 +1,7 @@
 -- How many levels the trees have.
 -- Assumes nothing.
 use Prim.Native.Nat.{ℕ, zero, suc, _+_, _≤_, _<_, max}
-use mathlib.Core.Bool.{Bool, true, false, cond, _||_, true≢false}
+use mathlib.Core.Bool.{Bool, true, false, cond}
 use mathlib.Core.List.{List, [], _∷_, _++_}
 use mathlib.Core.Path.{_≡_, refl, sym, ap, _∙_}
 use native.Mathlib.Decide.{ℕ-discrete}
@@ -9,18 +9,17 @@ use native.Mathlib.Nat.{zero-max, max-zero}
 use native.Mathlib.Numerals.{add-one}
 use native.Mathlib.Omega.{arith}
 use lib.Dec.{leb, ltb, eqb, leb·suc-suc}
-use lib.ListN.{length, set, getD, replicate, length-set, length-replicate, List·getD-eq-default}
+use lib.ListN.{length, set, getD, replicate, length-set, length-replicate}
 use lib.Seq.{getD-set-same, getD-set-other}
-use borrow.Author.Tests.{ltb-true, ltb-false, leb-true, leb-false, eq-eqb, ne-eqb, lt-ltb, le-ltb}
+use borrow.Author.Tests.{ltb-true, ltb-false, ne-eqb, lt-ltb, le-ltb}
 use Rattle.record.specs.declared.Record.{Record}
 use Rattle.book.specs.Lists.{All, any}
-use Rattle.book.specs.Shape.{Group, groupNumber, Field, Child, childIn, childrenBy, children}
+use Rattle.book.specs.Shape.{Field, Child, childIn, childrenBy, children}
 use Rattle.book.specs.Rows.{rowAt, fieldNumber, cellIn, groupIn}
 use Rattle.book.specs.Faults.{recordOf, deeperThan, depthFault}
-use Rattle.book.specs.Tables.{Depths, deepestOf}
+use Rattle.book.specs.Tables.{Depths, FewLevels, deepestOf}
 use Rattle.book.proofs.Cells.{row-below, field-a, field-b, field-c, group-some}
 use Rattle.book.proofs.Marks.{by-child}
-use Rattle.book.proofs.Trees.{both-not}
 
 -- every number there is 0
 none-at : (m k : ℕ) → _≡_ {A = ℕ} (getD (replicate m 0) k 0) 0
@@ -37,36 +36,36 @@ depths-start rs =
       few = λ k. omega (arith, none-at 1344 k);
     }
 
--- no tree counts as more than 65 levels
-pub deepest-few : {rs : List Record} {n : ℕ} {depths : List ℕ} → Depths rs n depths → (cs : List Child) → deepestOf depths cs ≤ 65
-unfolding deepestOf
-deepest-few known [] = omega arith
-deepest-few known (c ∷ cs) = omega (arith, known .few (c .number), deepest-few known cs)
+-- no tree counts as more than 65 levels, and so none as 255, which stands for a wrong child
+module _ (depths : List ℕ) (known : FewLevels depths) where
+  deepest-few : (cs : List Child) → deepestOf depths cs ≤ 65
+  unfolding deepestOf
+  deepest-few [] = omega arith
+  deepest-few (c ∷ cs) = omega (arith, known (c .number), deepest-few cs)
+
+  pub levels-right : (k : ℕ) → eqb (getD depths k 0) 255 ≡ false
+  levels-right k = ne-eqb (getD depths k 0) 255 (λ e. omega (arith, known k))
+
+  pub deepest-right : {d : ℕ} (cs : List Child) → d ≡ deepestOf depths cs → eqb d 255 ≡ false
+  deepest-right {d} cs is = ne-eqb d 255 (λ e. omega (arith, deepest-few cs))
 
 -- the levels at the child in a field, whose group has the number `group`, 0 for none
-pub levels-in :
-    {group : ℕ} (depths : List ℕ) (x : ℕ) (g : Field) → group ≡ groupIn (childIn g x) →
-    (t : Bool) → eqb group 0 || leb (length depths) x ≡ t → cond t 0 (getD depths x 0) ≡ deepestOf depths (childIn g x)
-unfolding deepestOf
-levels-in {group} depths x g is t e =
-    by-child (λ l. group ≡ groupIn l → cond t 0 (getD depths x 0) ≡ deepestOf depths l) x (none t e) (one t e) g is
-  where
-    none : (t : Bool) → eqb group 0 || leb (length depths) x ≡ t → group ≡ 0 → cond t 0 (getD depths x 0) ≡ 0
-    none true e is = refl
-    none false e is = absurd (true≢false (sym (rw (eq-eqb group 0 is)) ∙ e))
+module _ {group : ℕ} (depths : List ℕ) (x : ℕ) (g : Field) (is : group ≡ groupIn (childIn g x)) where
+  pub levels-none : group ≡ 0 → 0 ≡ deepestOf depths (childIn g x)
+  unfolding deepestOf
+  levels-none missing =
+      by-child (λ l. group ≡ groupIn l → 0 ≡ deepestOf depths l) x
+      (λ _. refl)
+      (λ h e. absurd (group-some h (sym e ∙ missing)))
+      g is
 
-    one :
-        (t : Bool) → eqb group 0 || leb (length depths) x ≡ t → (h : Group) → group ≡ groupNumber h →
-        cond t 0 (getD depths x 0) ≡ max (getD depths x 0) 0
-    one true e h is =
-        let past : length depths ≤ x = leb-true (length depths) x (rw (ne-eqb group 0 (λ z. group-some h (sym is ∙ z))) at e) in
-        let nothing : getD depths x 0 ≡ 0 = List·getD-eq-default depths 0 {n = x} past in
-        omega arith
-    one false e h is = sym (max-zero (getD depths x 0))
-
--- what is not past the end is there
-pub levels-there : (group : ℕ) {n x : ℕ} → eqb group 0 || leb n x ≡ false → x < n
-levels-there group {n} {x} e = leb-false n x (both-not (eqb group 0) (leb n x) e .1)
+  pub levels-there : (group ≡ 0 → ⊥) → getD depths x 0 ≡ deepestOf depths (childIn g x)
+  unfolding deepestOf
+  levels-there some-is =
+      by-child (λ l. group ≡ groupIn l → getD depths x 0 ≡ deepestOf depths l) x
+      (λ e. absurd (some-is e))
+      (λ h e. sym (max-zero (getD depths x 0)))
+      g is
 
 deepest-append : (depths : List ℕ) (l m : List Child) → deepestOf depths (l ++ m) ≡ max (deepestOf depths l) (deepestOf depths m)
 unfolding deepestOf

@@ -16,3 +16,4 @@ pub mod Levels
 pub mod Looks
 pub mod Answers
 pub mod Accepted
+pub mod Skips

@@ -19,19 +19,20 @@ use Rattle.book.specs.declared.fault.Fault.the-variants.{Nothing, At}
 use Rattle.book.specs.declared.follow.Place.{Place}
 use Rattle.book.specs.Lists as lists
 use Rattle.book.specs.Lists.{All, find, upTo}
-use Rattle.book.specs.Shape.{table, rowOf, fits, wellShaped, childrenBy, children}
+use Rattle.book.specs.Shape.{table, rowOf, fits, wellShaped, childIn, childrenBy, children}
 use Rattle.book.specs.Blocks.{recordCount, records}
 use Rattle.book.specs.Faults.{recordOf, shapeFault, childFault, before, mayFollow, followFault, nameFault, depthFault}
 use Rattle.book.specs.Refusal.{Cause, Refusal, shape, child, follow, name, depth, at, faulty, atRecord, holds}
 use Rattle.book.specs.Answer.{causeOf, refusalOf}
-use Rattle.book.specs.Rows.{rowAt, cellIn, groupOf}
-use Rattle.book.specs.Tables.{following, Roots, Takes, Names, Depths, deepestOf, Counted, Placed, Kept, Ready, Looked}
+use Rattle.book.specs.Rows.{rowAt, cellIn, groupOf, Primitive}
+use Rattle.book.specs.Tables.{following, setBit, Roots, Takes, Names, Depths, deepestOf, Counted, Placed, Kept, Ready, Looked}
 use Rattle.book.proofs.Trees.{both-not, none-passes}
 use Rattle.book.proofs.Records.{records-length, record-here}
 use Rattle.book.proofs.Scans.{Passed, scan-here, scan-on}
-use Rattle.book.proofs.Places.{before-next}
-use Rattle.book.proofs.Marks.{roots-next, child-fault}
-use Rattle.book.proofs.Levels.{depth-fault, depths-next, deepest-few}
+use Rattle.book.proofs.Places.{before-next, not-item}
+use Rattle.book.proofs.Marks.{none-taken, roots-next, child-fault}
+use Rattle.book.proofs.Declares.{no-set, declares-none}
+use Rattle.book.proofs.Levels.{depth-fault, depths-next}
 
 -- the first that holds of causes 4 to 8 at record n
 firstOf : ℕ → Bool → Bool → Bool → Bool → Bool → Option Refusal
@@ -110,9 +111,6 @@ module _
     children-by : childrenBy r (rowAt row) ≡ children (recordOf rs n)
     unfolding children
     children-by = ap (childrenBy r) found ∙ ap (λ r. childrenBy r (rowOf r)) (ready .is)
-
-    pub few-levels : {d : ℕ} → d ≡ deepestOf depths₀ (childrenBy r (rowAt row)) → d ≤ 65
-    few-levels e = omega (arith, deepest-few (ready .kept .depths-are) (childrenBy r (rowAt row)))
 
     pub not-shaped : fits r (rowAt row) ≡ false → Faulty Shape
     unfolding firstOf shapeFault causeOf
@@ -217,6 +215,31 @@ pub less :
     {book : List ℕ} {n : ℕ} {r : Record} {p : Place} {roots names depths : List ℕ} →
     Ready book n r p roots names depths → n < length (records book)
 less {book} ready = omega (arith, records-length book, ready .here .within)
+
+-- a primitive type passes: it has no children, stands anywhere, and declares no name
+module _ (r : Record) where
+  no-children : childrenBy r (rowAt 0) ≡ []
+  unfolding rowAt table lists.at childIn
+  no-children = refl
+
+  of-types : 1 ≡ cellIn (rowAt 0) 0
+  unfolding rowAt table lists.at cellIn
+  of-types = refl
+
+pub primitive-passes :
+    {book : List ℕ} {n : ℕ} {r : Record} {p : Place} {roots names depths : List ℕ} →
+    Ready book n r p roots names depths → Primitive r → (x : Fault) → x ≡ Nothing →
+    Looked book n x (set roots n 1) names (set depths n 1)
+unfolding deepestOf
+primitive-passes {book} {n} {r} {roots = roots} {depths = depths} ready is x nothing =
+    let rs = records book in
+    let none-declared = ap setBit (sym (no-set r (λ low high. omega (arith, is .kind-is)))) in
+    let (new, named) = declares-none (ready .kept .names-are) (less ready) (ready .is) none-declared in
+    let taken = subst (λ cs. Takes rs n [] cs false roots) (sym (no-children r)) (none-taken (ready .kept .roots-are)) in
+    let right : Right ready 0 roots = record { shaped = record { found = is .found; fitting = is .fitting }; taken = taken } in
+    let stands : Stands ready 0 roots = record { right = right; follows = not-item r (before rs n) (omega (arith, is .kind-is)) } in
+    passed (record { stands = stands; new = sym new })
+    (ap (deepestOf depths) (sym (no-children r))) x nothing (ap (λ k. cond (ltb k 20) false false) (is .kind-is)) named (of-types r)
 
 -- before record n is looked at
 pub ready :

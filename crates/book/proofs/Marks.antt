@@ -259,8 +259,13 @@ module _
     pub take-other : {roots′ : List ℕ} → x < n → (getD roots x 0 ≡ group → ⊥) → Takes rs n cs (childIn f x) true roots′
     take-other early other = taken (rw (lt-leb n x early, ne-eqb _ _ other)) (λ z. absurd (true≢false z))
 
-    pub take-root : x < n → getD roots x 0 ≡ group → Takes rs n cs (childIn f x) false (set roots x 0)
-    take-root early same = taken (rw (lt-leb n x early, eq-eqb _ _ same)) (λ z. (early, refl))
+    pub take-root : {w : Bool} → w ≡ false → x < n → getD roots x 0 ≡ group → Takes rs n cs (childIn f x) w (set roots x 0)
+    take-root right early same = taken (rw (lt-leb n x early, eq-eqb _ _ same) (sym right)) (λ z. (early, refl))
+
+-- where there is no child, none is wrong and all roots are left
+pub none-taken : {rs : List Record} {n : ℕ} {roots : List ℕ} → Roots rs n [] roots → Takes rs n [] [] false roots
+unfolding any usedTwice
+none-taken u = record { wrong-is = refl; left = λ _. u }
 
 -- the child in field f with the value x is looked at, whatever children came before
 abbrev Looked : List Record → ℕ → ℕ → ℕ → Bool → List ℕ → List ℕ → Type 0
@@ -287,10 +292,10 @@ module _
     wrong-b wrong = rw here (then-wrong rs n _ _ wrong in-b)
 
     pub in-c :
-        w ≡ false → {roots₃ : List ℕ} {h : ℕ} {x : Bool} → h ≡ cellIn (rowAt i) 6 → Looked rs n h (r .c) x roots₂ roots₃ →
-        Takes rs n [] (childrenBy r (rowAt i)) x roots₃
-    in-c right-b is-c looked-c =
-        rw here (then-right rs n right-b in-b (looked-c (row .c) _ (is-c ∙ field-c i here) (in-b .left right-b)))
+        w ≡ false → {roots₃ : List ℕ} {h : ℕ} {x y : Bool} → h ≡ cellIn (rowAt i) 6 → Looked rs n h (r .c) x roots₂ roots₃ → x ≡ y →
+        Takes rs n [] (childrenBy r (rowAt i)) y roots₃
+    in-c right-b is-c looked-c same =
+        rw (here, ← same) (then-right rs n right-b in-b (looked-c (row .c) _ (is-c ∙ field-c i here) (in-b .left right-b)))
 
 -- no child of n is behind it
 none-later : (n k : ℕ) → n ≤ k → (cs : List Child) → All (λ c. c .number < n) cs → any (isNumber k) cs ≡ false

@@ -10,3 +10,4 @@ pub mod Answer
 pub mod Rows
 pub mod Follow
 pub mod Tables
+pub mod Ahead

@@ -10,7 +10,7 @@ use lib.ListN.{getD}
 use Rattle.record.specs.declared.Record.{Record}
 use Rattle.book.specs.Lists.{at}
 use Rattle.book.specs.Shape.{Field, unused, flag, bits, name, name?, string, string?, ordinal, free, child, child?}
-use Rattle.book.specs.Shape.{Row, Child, table, rowOf, groupNumber}
+use Rattle.book.specs.Shape.{Row, Child, table, rowOf, fits, groupNumber}
 
 -- row w of the table
 unfoldable pub rowAt : ℕ → Option Row
@@ -61,6 +61,16 @@ groupOf r = cellIn (rowOf r) 0
 -- the code's table has the rows by number, cell by cell
 pub record ShapeTable (t : List (List ℕ)) : Type 0 where
   pub cells : (i k : ℕ) → i < 38 → getD (getD t i []) k 0 ≡ cellIn (rowAt i) k
+
+-- the code's list of first rows is the rule, kind by kind
+pub record FirstRows (l : List ℕ) : Type 0 where
+  pub rows : (k : ℕ) → k < 37 → getD l k 0 ≡ firstRow k table
+
+-- a primitive type with nothing in its fields: kind 1, and well shaped by the first row
+pub record Primitive (r : Record) : Type 0 where
+  pub kind-is : r .kind ≡ 1
+  pub found : rowAt 0 ≡ rowOf r
+  pub fitting : fits r (rowAt 0) ≡ true
 
 -- the group of the first of some children by number, 0 where there is none
 abbrev pub groupIn : List Child → ℕ

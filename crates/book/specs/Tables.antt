@@ -70,6 +70,10 @@ pub record Depths (rs : List Record) (n : ℕ) (depths : List ℕ) : Type 0 wher
   pub levels : (k : ℕ) → k < n → (d : ℕ) → deeperThan d rs k ≡ ltb d (getD depths k 0)
   pub few : (k : ℕ) → getD depths k 0 ≤ 65
 
+-- no tree counts as more than 65 levels
+abbrev pub FewLevels : List ℕ → Type 0
+FewLevels depths = (k : ℕ) → getD depths k 0 ≤ 65
+
 -- the most levels among some children, 0 where there are none
 unfoldable pub deepestOf : List ℕ → List Child → ℕ
 deepestOf depths [] = 0

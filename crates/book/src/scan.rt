@@ -6,10 +6,11 @@ ghost use Rattle.book.specs.Lists.{find, upTo};
 ghost use Rattle.book.specs.Refusal.{atRecord, holds};
 ghost use Rattle.book.specs.Answer.{refusalOf};
 ghost use Rattle.book.specs.Follow.{FollowTable};
-ghost use Rattle.book.specs.Rows.{ShapeTable};
+ghost use Rattle.book.specs.Rows.{ShapeTable, FirstRows};
 ghost use Rattle.book.specs.Tables.{Ready, Looked, Counted};
 use crate::Cause;
 use crate::children;
+use crate::children::WRONG;
 use crate::depth;
 use crate::fault::Fault;
 use crate::follow;
@@ -18,10 +19,12 @@ use crate::follow_table::FOLLOW;
 use crate::names;
 use crate::names::NAMES;
 use crate::shape;
+use crate::shape::FIRST;
 use crate::shape::GROUP;
 use crate::shape::KINDS;
 use crate::shape::ROWS;
 use crate::shape::TABLE;
+use crate::shape::TYPE;
 use record::Record;
 
 // A book has at most so many records.
@@ -41,23 +44,31 @@ fn record_fault(
     r: Record,
     place: Place,
     table: &[[u8; 8]; 38],
+    first: &[u8; KINDS],
     follow: &[[bool; KINDS]; KINDS],
     roots: &mut [u8; RECORDS],
     names: &mut [u8; NAMES],
     depths: &mut [u8; RECORDS],
 ) -> Fault
     requires { ⌜ Ready (now book) n r place (now roots) (now names) (now depths) ⌝ }
-    requires { ⌜ ShapeTable (now table) × FollowTable (now follow) ⌝ }
+    requires { ⌜ ShapeTable (now table) × FirstRows (now first) × FollowTable (now follow) ⌝ }
     ensures { λ x. ⌜ Looked (now (book .entry)) n x (now (roots .exit)) (now (names .exit)) (now (depths .exit)) ⌝ }
 {
-    let row = shape::row_of(r, table);
+    // A primitive type, as most types are: it names no child and no name, and stands anywhere.
+    if shape::is_primitive(r) {
+        depths[n as usize] = 1;
+        roots[n as usize] = TYPE;
+        return Fault::Nothing;
+    }
+    let row = shape::row_of(r, table, first);
     if row == ROWS {
         return fault(Cause::Shape, n);
     }
     if !shape::fits(r, row, table) {
         return fault(Cause::Shape, n);
     }
-    if children::take_children(n, r, row, table, roots) {
+    let deepest = children::take_children(n, r, row, table, roots, depths);
+    if deepest == WRONG {
         return fault(Cause::Child, n);
     }
     if !follow::may_follow(r, place, follow) {
@@ -66,7 +77,6 @@ fn record_fault(
     if names::declare(r, names) {
         return fault(Cause::Name, n);
     }
-    let deepest = depth::deepest(r, row, table, depths);
     if depth::too_deep(r, deepest) {
         return fault(Cause::Depth, n);
     }
@@ -75,15 +85,16 @@ fn record_fault(
     Fault::Nothing
 }
 
-// The first fault of causes 4 to 8 in a book of so many records, by the two tables.
+// The first fault of causes 4 to 8 in a book of so many records, by the three tables.
 fn first_by(
     book: &[u8],
     count: u16,
     table: &[[u8; 8]; 38],
+    first: &[u8; KINDS],
     follow: &[[bool; KINDS]; KINDS],
 ) -> Fault
     requires { ⌜ Counted (now book) count ⌝ }
-    requires { ⌜ ShapeTable (now table) × FollowTable (now follow) ⌝ }
+    requires { ⌜ ShapeTable (now table) × FirstRows (now first) × FollowTable (now follow) ⌝ }
     ensures { λ r. ⌜ refusalOf r ≡ find (holds (now (book .entry))) (flatMap atRecord (upTo count)) ⌝ }
 {
     let mut place = follow::start();
@@ -99,6 +110,7 @@ fn first_by(
             r,
             place,
             table,
+            first,
             follow,
             &mut roots,
             &mut names,
@@ -113,22 +125,23 @@ fn first_by(
     Fault::Nothing
 }
 
-// The same by the table of shapes. The follow table is copied here and lent, since each index into a constant copies the
+// The same by the tables of shapes. The follow table is copied here and lent, since each index into a constant copies the
 // whole of it.
-fn first_by_shapes(book: &[u8], count: u16, table: &[[u8; 8]; 38]) -> Fault
+fn first_by_shapes(book: &[u8], count: u16, table: &[[u8; 8]; 38], first: &[u8; KINDS]) -> Fault
     requires { ⌜ Counted (now book) count ⌝ }
-    requires { ⌜ ShapeTable (now table) ⌝ }
+    requires { ⌜ ShapeTable (now table) × FirstRows (now first) ⌝ }
     ensures { λ r. ⌜ refusalOf r ≡ find (holds (now (book .entry))) (flatMap atRecord (upTo count)) ⌝ }
 {
     let follow = FOLLOW;
-    first_by(book, count, table, &follow)
+    first_by(book, count, table, first, &follow)
 }
 
-// The first fault of causes 4 to 8 in a book of so many records. The table of shapes is copied here and lent.
+// The first fault of causes 4 to 8 in a book of so many records. The tables of shapes are copied here and lent.
 pub(crate) fn first_fault(book: &[u8], count: u16) -> Fault
     requires { ⌜ Counted (now book) count ⌝ }
     ensures { λ r. ⌜ refusalOf r ≡ find (holds (now (book .entry))) (flatMap atRecord (upTo count)) ⌝ }
 {
     let table = TABLE;
-    first_by_shapes(book, count, &table)
+    let first = FIRST;
+    first_by_shapes(book, count, &table, &first)
 }

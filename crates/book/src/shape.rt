@@ -2,13 +2,14 @@
 
 ghost use mathlib.Core.Path.{_≡_};
 ghost use Prim.Native.Nat.{_≤_, _<_};
+ghost use mathlib.Core.Bool.{true};
 ghost use mathlib.Core.Option.{some};
 ghost use Rattle.book.specs.Shape.{Field, Row, table, isRow, rowOf, allows, fits, childIn};
-ghost use Rattle.book.specs.Rows.{rowAt, firstRow, fieldNumber, cellIn, groupIn, lastIn, ShapeTable};
+ghost use Rattle.book.specs.Rows.{rowAt, firstRow, fieldNumber, cellIn, groupIn, lastIn, ShapeTable, FirstRows, Primitive};
 use record::Record;
 
 // The groups of kinds.
-const TYPE: u8 = 1;
+pub const TYPE: u8 = 1;
 
 const CONST: u8 = 2;
 
@@ -124,7 +125,7 @@ pub const TABLE: [[u8; 8]; 38] = [
 ];
 
 // The first row of each kind, ROWS for numbers that are no kind. The rows of a kind stand together.
-const FIRST: [u8; KINDS] = [
+pub const FIRST: [u8; KINDS] = [
     ROWS,
     0, // kind 1
     1, // kind 2
@@ -188,19 +189,20 @@ fn is_row(r: Record, row: u8, table: &[[u8; 8]; 38]) -> bool
 }
 
 // The first row of a kind.
-fn first_row(kind: u8) -> u8
+fn first_row(kind: u8, first: &[u8; KINDS]) -> u8
+    requires { ⌜ FirstRows (now first) ⌝ }
     ensures { λ x. ⌜ x ≡ firstRow kind table ⌝ }
 {
     let k = kind as usize;
-    if k < KINDS { FIRST[k] } else { ROWS }
+    if k < KINDS { first[k] } else { ROWS }
 }
 
 // The number of a record's row.
-pub(crate) fn row_of(r: Record, table: &[[u8; 8]; 38]) -> u8
-    requires { ⌜ ShapeTable (now table) ⌝ }
+pub(crate) fn row_of(r: Record, table: &[[u8; 8]; 38], first: &[u8; KINDS]) -> u8
+    requires { ⌜ ShapeTable (now table) × FirstRows (now first) ⌝ }
     ensures { λ x. ⌜ (x ≤ 38) × (rowAt x ≡ rowOf r) ⌝ }
 {
-    let mut row = first_row(r.kind);
+    let mut row = first_row(r.kind, first);
     while row < ROWS {
         if is_row(r, row, table) {
             return row;
@@ -208,6 +210,13 @@ pub(crate) fn row_of(r: Record, table: &[[u8; 8]; 38]) -> u8
         row += 1;
     }
     ROWS
+}
+
+// Whether a record is a primitive type with nothing in its fields: it is well shaped by the first row.
+pub(crate) fn is_primitive(r: Record) -> bool
+    ensures { λ x. ⌜ (x ≡ true → Primitive r) ⌝ }
+{
+    (r.kind == 1) & (r.sub <= 13) & (r.a == 0) & (r.b == 0) & (r.c == 0) & (r.v == 0)
 }
 
 // The last value that a field may hold, apart from the one that stands for no name.

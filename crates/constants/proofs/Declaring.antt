@@ -15,12 +15,14 @@ use Rattle.record.specs.declared.Record.{Record}
 use Rattle.record.specs.Layout.{recordAt}
 use Rattle.book.specs.Lists.{any, keep, from}
 use Rattle.book.specs.Blocks.{recordCount, records}
-use Rattle.book.specs.Faults.{recordOf, isKind}
+use Rattle.book.specs.Faults.{recordOf, isKind, isDeclaration}
 use Rattle.book.specs.Outline.{read, numbersOf}
 use Rattle.book.specs.Trees.{Readable}
 use Rattle.book.proofs.Lists.{any-more}
 use Rattle.constants.specs.Order.{Constant, declares}
 use Rattle.constants.specs.OfBook.{constantAt, constants}
+use Rattle.book.specs.Ahead.{Ahead}
+use Rattle.book.proofs.Skips.{skip-to-declaration}
 use Rattle.constants.specs.Tables.{declared, IsConstant, NamesBelow, Places, Undone}
 
 -- one more name is opened
@@ -137,3 +139,12 @@ module _
             ∙ d .listed;
         undone-is = d .undone-is;
       }
+
+-- on to the next declaration: what is in between is none
+pub declaring-skip :
+    {book : List ℕ} {m n : ℕ} {places : List ℕ} {undone : List Bool} {ahead : List ℕ} → Readable book → Ahead isDeclaration book ahead →
+    n < recordCount book → Declaring book m (n + 1) places undone → Declaring book m (getD ahead n 0) places undone
+declaring-skip {book} {m} {n} {places} {undone} readable a less d =
+    skip-to-declaration readable (λ k. Declaring book m k places undone) n less a
+    (λ k here none d. declaring-other readable d here {r = recordAt book k} refl (λ e. none (omega arith) (omega arith)))
+    d

@@ -3,6 +3,8 @@
 ghost use mathlib.Core.Path.{_≡_};
 ghost use Prim.Native.Nat.{_≤_};
 ghost use Rattle.book.specs.Blocks.{recordCount};
+ghost use Rattle.book.specs.Faults.{isDeclaration};
+ghost use Rattle.book.specs.Ahead.{Ahead};
 ghost use Rattle.book.specs.Trees.{Readable};
 ghost use Rattle.constants.specs.Evaluated.{Long, outcomeOver, Evaluated};
 ghost use Rattle.constants.specs.Tables.{NamesBelow, Works};
@@ -24,6 +26,7 @@ const FEW_RECORDS: usize = 336;
 fn evaluate_with(
     book: &[u8],
     count: u16,
+    ahead: &[u16],
     known: &mut [bool],
     worth: &mut [u64],
     order: &mut [u16],
@@ -37,14 +40,14 @@ fn evaluate_with(
     hints: &mut [u16],
     ends: &mut [u16],
 ) -> u16
-    requires { ⌜ Readable (now book) × (count ≡ recordCount (now book)) ⌝ }
+    requires { ⌜ Readable (now book) × (count ≡ recordCount (now book)) × Ahead isDeclaration (now book) (now ahead) ⌝ }
     requires { ⌜ Long (now book) count (now known) (now worth) (now order) (now stored) (now values) ⌝ }
     requires { ⌜ Works (now book) (now undone) (now seen) (now places) (now waits) (now named) (now hints) (now ends) ⌝ }
     ensures { λ r. ⌜ Evaluated (outcomeOver (now (book .entry)) (now (known .entry)) (now (worth .entry))) r
         (now (known .entry)) (now (known .exit)) (now (worth .entry)) (now (worth .exit)) (now (order .entry)) (now (order .exit))
         (now (stored .entry)) (now (stored .exit)) (now (values .entry)) (now (values .exit)) ⌝ }
 {
-    let m = ready::declare_constants(book, count, places, undone);
+    let m = ready::declare_constants(book, count, ahead, places, undone);
     ready::admit_constants(book, m, places, undone, seen, waits);
     ready::hint_constants(book, m, places, named, hints, ends);
     ready::settle_constants(
@@ -68,13 +71,14 @@ fn evaluate_with(
 fn evaluate_few(
     book: &[u8],
     count: u16,
+    ahead: &[u16],
     known: &mut [bool],
     worth: &mut [u64],
     order: &mut [u16],
     stored: &mut [bool],
     values: &mut [u64],
 ) -> u16
-    requires { ⌜ Readable (now book) × (count ≡ recordCount (now book)) ⌝ }
+    requires { ⌜ Readable (now book) × (count ≡ recordCount (now book)) × Ahead isDeclaration (now book) (now ahead) ⌝ }
     requires { ⌜ Long (now book) count (now known) (now worth) (now order) (now stored) (now values) ⌝ }
     requires { ⌜ NamesBelow (now book) 256 × (count ≤ 336) ⌝ }
     ensures { λ r. ⌜ Evaluated (outcomeOver (now (book .entry)) (now (known .entry)) (now (worth .entry))) r
@@ -91,6 +95,7 @@ fn evaluate_few(
     evaluate_with(
         book,
         count,
+        ahead,
         known,
         worth,
         order,
@@ -110,13 +115,14 @@ fn evaluate_few(
 fn evaluate_many(
     book: &[u8],
     count: u16,
+    ahead: &[u16],
     known: &mut [bool],
     worth: &mut [u64],
     order: &mut [u16],
     stored: &mut [bool],
     values: &mut [u64],
 ) -> u16
-    requires { ⌜ Readable (now book) × (count ≡ recordCount (now book)) ⌝ }
+    requires { ⌜ Readable (now book) × (count ≡ recordCount (now book)) × Ahead isDeclaration (now book) (now ahead) ⌝ }
     requires { ⌜ Long (now book) count (now known) (now worth) (now order) (now stored) (now values) ⌝ }
     ensures { λ r. ⌜ Evaluated (outcomeOver (now (book .entry)) (now (known .entry)) (now (worth .entry))) r
         (now (known .entry)) (now (known .exit)) (now (worth .entry)) (now (worth .exit)) (now (order .entry)) (now (order .exit))
@@ -132,6 +138,7 @@ fn evaluate_many(
     evaluate_with(
         book,
         count,
+        ahead,
         known,
         worth,
         order,
@@ -148,18 +155,19 @@ fn evaluate_many(
 }
 
 // Evaluates the constants of a book, over values of names beforehand: `known` says which names have one, `worth` its 64
-// bits. The reached constants come in their order: `order` has their record numbers, `stored` whether each has a value,
+// bits. `ahead` has the next declaration behind each record. The reached constants come in their order: `order` has their record numbers, `stored` whether each has a value,
 // and `values` that value or 0. Each value is put under its name in `known` and `worth`. The number of reached constants.
 pub fn evaluate_constants(
     book: &[u8],
     count: u16,
+    ahead: &[u16],
     known: &mut [bool],
     worth: &mut [u64],
     order: &mut [u16],
     stored: &mut [bool],
     values: &mut [u64],
 ) -> u16
-    requires { ⌜ Readable (now book) × (count ≡ recordCount (now book)) ⌝ }
+    requires { ⌜ Readable (now book) × (count ≡ recordCount (now book)) × Ahead isDeclaration (now book) (now ahead) ⌝ }
     requires { ⌜ Long (now book) count (now known) (now worth) (now order) (now stored) (now values) ⌝ }
     ensures { λ r. ⌜ Evaluated (outcomeOver (now (book .entry)) (now (known .entry)) (now (worth .entry))) r
         (now (known .entry)) (now (known .exit)) (now (worth .entry)) (now (worth .exit)) (now (order .entry)) (now (order .exit))
@@ -167,8 +175,8 @@ pub fn evaluate_constants(
 {
     if (count as usize) <= FEW_RECORDS {
         if known.len() <= FEW_NAMES {
-            return evaluate_few(book, count, known, worth, order, stored, values);
+            return evaluate_few(book, count, ahead, known, worth, order, stored, values);
         }
     }
-    evaluate_many(book, count, known, worth, order, stored, values)
+    evaluate_many(book, count, ahead, known, worth, order, stored, values)
 }

@@ -6,6 +6,8 @@ ghost use Prim.Native.Nat.{ℕ, _+_, _≤_, _<_};
 ghost use lib.ListN.{length, getD, set};
 ghost use Rattle.arith.specs.Checked.{answer};
 ghost use Rattle.book.specs.Blocks.{recordCount};
+ghost use Rattle.book.specs.Faults.{isDeclaration};
+ghost use Rattle.book.specs.Ahead.{Ahead};
 ghost use Rattle.book.specs.Outline.{read};
 ghost use Rattle.book.specs.Trees.{Readable};
 ghost use Rattle.constants.specs.OfBook.{constantAt};
@@ -27,10 +29,11 @@ const AT_ONCE: u16 = 65534;
 pub(crate) fn declare_constants(
     book: &[u8],
     count: u16,
+    ahead: &[u16],
     places: &mut [u16],
     undone: &mut [bool],
 ) -> u16
-    requires { ⌜ Readable (now book) × (count ≡ recordCount (now book)) ⌝ }
+    requires { ⌜ Readable (now book) × (count ≡ recordCount (now book)) × Ahead isDeclaration (now book) (now ahead) ⌝ }
     requires { ⌜ (recordCount (now book) ≤ length (now places)) × NamesBelow (now book) (length (now undone)) × Undone [] [] (now undone) ⌝ }
     ensures { λ r. ⌜ Places (read (now (book .entry))) r (now (places .exit)) × Undone (declared (now (book .entry))) [] (now (undone .exit)) ⌝ }
 {
@@ -45,7 +48,8 @@ pub(crate) fn declare_constants(
             undone[name] = true;
             m += 1;
         }
-        n += 1;
+        let here = n as usize;
+        n = ahead[here];
     }
     m
 }

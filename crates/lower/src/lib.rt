@@ -6,6 +6,7 @@ ghost use Rattle.types.specs.Standing.{stopOf};
 ghost use Rattle.lower.specs.Promise.{causeNumber, replyOf, replyWords, Lowered, Exported};
 ghost use Rattle.lower.specs.Counters.{countersAfter};
 
+mod ahead;
 mod parts;
 
 use book::Reading;

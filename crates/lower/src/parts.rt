@@ -5,6 +5,8 @@ ghost use mathlib.Core.List.{List, map};
 ghost use Prim.Native.Nat.{_≤_};
 ghost use lib.ListN.{length, take};
 ghost use Rattle.book.specs.Blocks.{recordCount, wildcards};
+ghost use Rattle.book.specs.Faults.{isDeclaration};
+ghost use Rattle.book.specs.Ahead.{isOutside, Ahead};
 ghost use Rattle.book.specs.Outline.{read};
 ghost use Rattle.book.specs.Trees.{Readable};
 ghost use Rattle.constants.specs.Order.{Settled};
@@ -18,6 +20,7 @@ ghost use Rattle.lower.specs.Ended.{lowerRest, Values, Tables, Numbered,
 use crate::Cause;
 use crate::Counted;
 use crate::Reply;
+use crate::ahead;
 use bodies::consts;
 use bodies::decls;
 use record::write;
@@ -39,10 +42,17 @@ const FEW_RECORDS: usize = 336;
 
 const FEW_NAMES: usize = 256;
 
+// And one of a few blocks so many.
+const LEAST_RECORDS: usize = 84;
+
+const LEAST_NAMES: usize = 64;
+
 // Lowers the constants and the bodies, behind the plain aliases.
 fn lower_rest(
     book: &[u8],
     count: u16,
+    ahead: &[u16],
+    onward: &[u16],
     m: u16,
     order: &[u16],
     stored: &[bool],
@@ -57,7 +67,7 @@ fn lower_rest(
     results: &mut [u8],
     diagnostics: &mut [u8],
 ) -> Part
-    requires { ⌜ (count ≡ recordCount (now book)) × Holds (now book) m (now order) (now stored) (now values) ⌝ }
+    requires { ⌜ (count ≡ recordCount (now book)) × Holds (now book) m (now order) (now stored) (now values) × Ahead isDeclaration (now book) (now ahead) × Ahead isOutside (now book) (now onward) ⌝ }
     requires { ⌜ Reads (now book) scope (now ambiguous) (now generics) ⌝ }
     requires { ⌜ Stands (now book) scope (now aliases) ctx (held (now numbers) (now pairs) (now results) (now diagnostics)) ⌝ }
     ensures { λ r. ⌜ LowersPart (now (book .entry)) scope (now (aliases .entry)) ctx
@@ -85,6 +95,8 @@ fn lower_rest(
         Part::Lowered(behind) => decls::lower_bodies(
             book,
             count,
+            ahead,
+            onward,
             scope,
             behind,
             ambiguous,
@@ -103,6 +115,8 @@ fn lower_rest(
 fn lower_named(
     book: &[u8],
     count: u16,
+    ahead: &[u16],
+    onward: &[u16],
     m: u16,
     order: &[u16],
     stored: &[bool],
@@ -115,7 +129,7 @@ fn lower_named(
     results: &mut [u8],
     diagnostics: &mut [u8],
 ) -> Part
-    requires { ⌜ (count ≡ recordCount (now book)) × Holds (now book) m (now order) (now stored) (now values) ⌝ }
+    requires { ⌜ (count ≡ recordCount (now book)) × Holds (now book) m (now order) (now stored) (now values) × Ahead isDeclaration (now book) (now ahead) × Ahead isOutside (now book) (now onward) ⌝ }
     requires { ⌜ Numbered (now book) scope (now ambiguous) (now generics) (now numbers) (now aliases) ⌝ }
     ensures { λ r. ⌜ LowersBook (now (book .entry)) (now (results .entry)) (now (diagnostics .entry)) r (now (results .exit)) (now (diagnostics .exit)) ⌝ }
 {
@@ -128,6 +142,7 @@ fn lower_named(
     let end = alias::lower_aliases(
         book,
         count,
+        ahead,
         scope,
         ctx,
         ambiguous,
@@ -142,6 +157,8 @@ fn lower_named(
         Part::Lowered(behind) => lower_rest(
             book,
             count,
+            ahead,
+            onward,
             m,
             order,
             stored,
@@ -164,6 +181,8 @@ fn lower_named(
 fn lower_records(
     book: &[u8],
     count: u16,
+    ahead: &[u16],
+    onward: &[u16],
     imports: bool,
     m: u16,
     order: &[u16],
@@ -176,14 +195,24 @@ fn lower_records(
     results: &mut [u8],
     diagnostics: &mut [u8],
 ) -> Part
-    requires { ⌜ (count ≡ recordCount (now book)) × (imports ≡ wildcards (now book)) × Holds (now book) m (now order) (now stored) (now values) ⌝ }
+    requires { ⌜ (count ≡ recordCount (now book)) × (imports ≡ wildcards (now book)) × Holds (now book) m (now order) (now stored) (now values) × Ahead isDeclaration (now book) (now ahead) × Ahead isOutside (now book) (now onward) ⌝ }
     requires { ⌜ Tables (now book) (now ambiguous) (now generics) (now numbers) (now aliases) ⌝ }
     ensures { λ r. ⌜ LowersBook (now (book .entry)) (now (results .entry)) (now (diagnostics .entry)) r (now (results .exit)) (now (diagnostics .exit)) ⌝ }
 {
-    let scope = register::register_declarations(book, count, imports, ambiguous, generics, numbers);
+    let scope = register::register_declarations(
+        book,
+        count,
+        ahead,
+        imports,
+        ambiguous,
+        generics,
+        numbers,
+    );
     lower_named(
         book,
         count,
+        ahead,
+        onward,
         m,
         order,
         stored,
@@ -246,10 +275,13 @@ fn count_stored(m: u16, stored: &[bool]) -> u16
     n
 }
 
-// Lowers a book that reading accepts, with so many records, with tables that are empty and long enough for it.
+// Lowers a book that reading accepts, with so many records, with tables that are empty and long enough for it. `ahead` has
+// the next declaration behind each record, `onward` the next declaration or item.
 fn lower_with(
     book: &[u8],
     count: u16,
+    ahead: &[u16],
+    onward: &[u16],
     imports: bool,
     known: &mut [bool],
     worth: &mut [u64],
@@ -263,15 +295,17 @@ fn lower_with(
     results: &mut [u8],
     diagnostics: &mut [u8],
 ) -> Counted
-    requires { ⌜ Readable (now book) × (count ≡ recordCount (now book)) × (imports ≡ wildcards (now book)) ⌝ }
+    requires { ⌜ Readable (now book) × (count ≡ recordCount (now book)) × (imports ≡ wildcards (now book)) × Ahead isDeclaration (now book) (now ahead) × Ahead isOutside (now book) (now onward) ⌝ }
     requires { ⌜ Values (now book) (now known) (now worth) (now order) (now stored) (now values) ⌝ }
     requires { ⌜ Tables (now book) (now ambiguous) (now generics) (now numbers) (now aliases) ⌝ }
     ensures { λ r. ⌜ LowersRead (now (book .entry)) (now (results .entry)) (now (diagnostics .entry)) r (now (results .exit)) (now (diagnostics .exit)) ⌝ }
 {
-    let m = constants::evaluate_constants(book, count, known, worth, order, stored, values);
+    let m = constants::evaluate_constants(book, count, ahead, known, worth, order, stored, values);
     let end = lower_records(
         book,
         count,
+        ahead,
+        onward,
         imports,
         m,
         order,
@@ -299,6 +333,9 @@ fn lower_small(
     requires { ⌜ (count ≤ 336) × NamesBelow (now book) 256 ⌝ }
     ensures { λ r. ⌜ LowersRead (now (book .entry)) (now (results .entry)) (now (diagnostics .entry)) r (now (results .exit)) (now (diagnostics .exit)) ⌝ }
 {
+    let mut ahead = [0u16; FEW_RECORDS];
+    let mut onward = [0u16; FEW_RECORDS];
+    ahead::look_ahead(book, count, &mut ahead, &mut onward);
     let mut known = [false; FEW_NAMES];
     let mut worth = [0u64; FEW_NAMES];
     let mut order = [0u16; FEW_RECORDS];
@@ -311,6 +348,52 @@ fn lower_small(
     lower_with(
         book,
         count,
+        &ahead,
+        &onward,
+        imports,
+        &mut known,
+        &mut worth,
+        &mut order,
+        &mut stored,
+        &mut values,
+        &mut ambiguous,
+        &mut generics,
+        &mut numbers,
+        &mut aliases,
+        results,
+        diagnostics,
+    )
+}
+
+// Lowers a book of a few blocks, the same with smaller tables.
+fn lower_least(
+    book: &[u8],
+    count: u16,
+    imports: bool,
+    results: &mut [u8],
+    diagnostics: &mut [u8],
+) -> Counted
+    requires { ⌜ Readable (now book) × (count ≡ recordCount (now book)) × (imports ≡ wildcards (now book)) ⌝ }
+    requires { ⌜ (count ≤ 84) × NamesBelow (now book) 64 ⌝ }
+    ensures { λ r. ⌜ LowersRead (now (book .entry)) (now (results .entry)) (now (diagnostics .entry)) r (now (results .exit)) (now (diagnostics .exit)) ⌝ }
+{
+    let mut ahead = [0u16; LEAST_RECORDS];
+    let mut onward = [0u16; LEAST_RECORDS];
+    ahead::look_ahead(book, count, &mut ahead, &mut onward);
+    let mut known = [false; LEAST_NAMES];
+    let mut worth = [0u64; LEAST_NAMES];
+    let mut order = [0u16; LEAST_RECORDS];
+    let mut stored = [false; LEAST_RECORDS];
+    let mut values = [0u64; LEAST_RECORDS];
+    let mut ambiguous = [false; LEAST_NAMES];
+    let mut generics = [0u32; LEAST_RECORDS];
+    let mut numbers = [POISON_TYPE_ID; LEAST_NAMES];
+    let mut aliases = [POISON_TYPE_ID; LEAST_NAMES];
+    lower_with(
+        book,
+        count,
+        &ahead,
+        &onward,
         imports,
         &mut known,
         &mut worth,
@@ -337,6 +420,9 @@ fn lower_large(
     requires { ⌜ Readable (now book) × (count ≡ recordCount (now book)) × (imports ≡ wildcards (now book)) ⌝ }
     ensures { λ r. ⌜ LowersRead (now (book .entry)) (now (results .entry)) (now (diagnostics .entry)) r (now (results .exit)) (now (diagnostics .exit)) ⌝ }
 {
+    let mut ahead = [0u16; RECORDS];
+    let mut onward = [0u16; RECORDS];
+    ahead::look_ahead(book, count, &mut ahead, &mut onward);
     let mut known = [false; NAMES];
     let mut worth = [0u64; NAMES];
     let mut order = [0u16; RECORDS];
@@ -349,6 +435,8 @@ fn lower_large(
     lower_with(
         book,
         count,
+        &ahead,
+        &onward,
         imports,
         &mut known,
         &mut worth,
@@ -375,6 +463,11 @@ pub(crate) fn lower_read(
     requires { ⌜ Readable (now book) × (count ≡ recordCount (now book)) × (imports ≡ wildcards (now book)) ⌝ }
     ensures { λ r. ⌜ LowersRead (now (book .entry)) (now (results .entry)) (now (diagnostics .entry)) r (now (results .exit)) (now (diagnostics .exit)) ⌝ }
 {
+    if count <= 84 {
+        if register::names_below(book, count, 64) {
+            return lower_least(book, count, imports, results, diagnostics);
+        }
+    }
     if count <= 336 {
         if register::names_below(book, count, 256) {
             return lower_small(book, count, imports, results, diagnostics);

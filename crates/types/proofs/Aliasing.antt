@@ -8,12 +8,15 @@ use native.Mathlib.Numerals.{add-one}
 use native.Mathlib.Omega.{arith}
 use lib.ListN.{length, getD}
 use borrow.Author.Tests.{eqb-true}
+use Rattle.record.specs.Layout.{recordAt}
 use Rattle.book.specs.Lists.{any, keep, from}
 use Rattle.book.specs.Blocks.{recordCount, records}
-use Rattle.book.specs.Faults.{isKind}
+use Rattle.book.specs.Faults.{isKind, isDeclaration}
 use Rattle.book.specs.Outline.{Book, read, _!_, numbersOf, notes}
 use Rattle.book.specs.Trees.{Readable}
+use Rattle.book.specs.Ahead.{Ahead}
 use Rattle.book.proofs.Members.{mem-keep, mem-from}
+use Rattle.book.proofs.Skips.{skip-to-declaration}
 use Rattle.book.proofs.Trees.{both-so}
 use Rattle.types.specs.declared.LowerCtx.{LowerCtx}
 use Rattle.types.specs.declared.Scope.{Scope}
@@ -33,6 +36,7 @@ use Rattle.types.specs.Lowers.{Goes, goes, halts, GoesOn, goes-on, stops
 use Rattle.types.specs.Aliased.{isPlainAlias, SameBut, LowersAlias, Unlowered, LowersAliases}
 use Rattle.types.proofs.Adds.{runs-in-turn}
 use Rattle.types.proofs.Typing.{other-name}
+use Rattle.types.proofs.Generics.{no-alias-at}
 use Rattle.types.proofs.Emitting.{limitsOf}
 
 module _ (book : Book) where
@@ -218,3 +222,13 @@ module _
                   free = λ m among. stay ((book ! m) .a) (others among) ∙ g .free m (rw listed (List·Memᴰ·tail among));
                   along = λ lent place k s f. went (rw q at (ends-so lent place k s f)) (in-turn lent place k s f);
                 }
+
+-- on to the next declaration: what is in between is none
+pub aliasing-skip :
+    {bytes : List ℕ} {scope : Scope} {aliases₀ : List ℕ} {ctx₀ : LowerCtx} {h₀ : Held} {aliases : List ℕ} {ctx : LowerCtx} {h : Held} {n : ℕ}
+    {ahead : List ℕ} → Readable bytes → Ahead isDeclaration bytes ahead → n < recordCount bytes →
+    Aliasing bytes scope aliases₀ ctx₀ h₀ aliases ctx h (n + 1) → Aliasing bytes scope aliases₀ ctx₀ h₀ aliases ctx h (getD ahead n 0)
+aliasing-skip {bytes} {scope} {aliases₀} {ctx₀} {h₀} {aliases} {ctx} {h} {n} readable a less g =
+    skip-to-declaration readable (λ k. Aliasing bytes scope aliases₀ ctx₀ h₀ aliases ctx h k) n less a
+    (λ k here none g. aliasing-other readable g here (no-alias-at readable here {r = recordAt bytes k} refl (λ e. none (omega arith) (omega arith))))
+    g

@@ -8,6 +8,7 @@ pub mod Resolving
 pub mod Found
 pub mod Start
 pub mod Arms
+pub mod Walking
 pub mod Nodes
 pub mod Emitting
 pub mod Records

@@ -14,10 +14,12 @@ use Rattle.record.specs.declared.Record.{Record}
 use Rattle.record.specs.Layout.{recordAt}
 use Rattle.book.specs.Lists.{at, keep, from}
 use Rattle.book.specs.Blocks.{recordCount, records, wildcards}
-use Rattle.book.specs.Faults.{recordOf, isKind}
+use Rattle.book.specs.Faults.{recordOf, isKind, isDeclaration}
 use Rattle.book.specs.Outline.{Book, read, _!_, numbersOf}
 use Rattle.book.specs.Trees.{Readable}
+use Rattle.book.specs.Ahead.{Ahead}
 use Rattle.book.proofs.Records.{at-map}
+use Rattle.book.proofs.Skips.{skip-to-declaration}
 use Rattle.types.specs.Resolved.{POISON, ownNumber}
 use Rattle.types.specs.Numbers.{parameters, genericAt, typeDeclarations, genericAliases, registerDeclarations}
 use Rattle.types.specs.Standing.{genericWord}
@@ -208,3 +210,13 @@ module _
                   rw (more, map-append word l (n ∷ []), word-is book n p e, is, g .listed, place)
                   (fill-more (map word l) lent (65536 * p + r .b) inside);
             }
+
+-- on to the next declaration: what is in between is none
+pub registering-skip :
+    {bytes : List ℕ} {size n next types : ℕ} {lent generics numbers ahead : List ℕ} → Readable bytes → Ahead isDeclaration bytes ahead →
+    n < recordCount bytes → Registering bytes size (n + 1) next types lent generics numbers →
+    Registering bytes size (getD ahead n 0) next types lent generics numbers
+registering-skip {bytes} {size} {n} {next} {types} {lent} {generics} {numbers} readable a less g =
+    skip-to-declaration readable (λ k. Registering bytes size k next types lent generics numbers) n less a
+    (λ k here none g. registering-other readable g here {r = recordAt bytes k} refl (λ e. none (omega arith) (omega arith)))
+    g

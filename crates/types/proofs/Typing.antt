@@ -15,10 +15,12 @@ use Rattle.record.specs.declared.Record.{Record}
 use Rattle.record.specs.Layout.{recordAt}
 use Rattle.book.specs.Lists.{any, keep, from}
 use Rattle.book.specs.Blocks.{recordCount, records}
-use Rattle.book.specs.Faults.{recordOf, isKind}
+use Rattle.book.specs.Faults.{recordOf, isKind, isDeclaration}
 use Rattle.book.specs.Outline.{read, isOneOf, numbersOf}
 use Rattle.book.specs.Trees.{WellFormed, Readable}
+use Rattle.book.specs.Ahead.{Ahead}
 use Rattle.book.proofs.Members.{any-mem}
+use Rattle.book.proofs.Skips.{skip-to-declaration}
 use Rattle.book.proofs.Trees.{not-so}
 use Rattle.book.proofs.Places.{one-of}
 use Rattle.book.proofs.Listed.{any-map, any-next, numbersBelow, listed-next, listed-length, mem-listed, any-listed}
@@ -235,3 +237,14 @@ module _
             marked = marked-same (t .marked) here (rw is other);
             numbered = rw same (t .numbered);
           }
+
+-- on to the next declaration: what is in between is none
+pub typing-skip :
+    {bytes : List ℕ} {size n next : ℕ} {ambiguous : List Bool} {numbers ahead : List ℕ} → Readable bytes → Ahead isDeclaration bytes ahead →
+    NamesBelow bytes size → n < recordCount bytes → Typing (records bytes) size (n + 1) next ambiguous numbers →
+    Typing (records bytes) size (getD ahead n 0) next ambiguous numbers
+typing-skip {bytes} {size} {n} {next} {ambiguous} {numbers} readable a below less t =
+    skip-to-declaration readable (λ k. Typing (records bytes) size k next ambiguous numbers) n less a
+    (λ k here none t.
+    typing-other readable t below here {r = recordAt bytes k} refl (λ low high. none low (omega arith)) (λ e. none (omega arith) (omega arith)))
+    t

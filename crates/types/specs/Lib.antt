@@ -11,6 +11,7 @@ pub mod Below
 pub mod Standing
 pub mod Finds
 pub mod Steps
+pub mod Spots
 pub mod Registered
 pub mod Lowers
 pub mod Aliased

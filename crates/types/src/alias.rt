@@ -7,6 +7,8 @@ ghost use lib.ListN.{length};
 ghost use Rattle.book.specs.Blocks.{recordCount};
 ghost use Rattle.book.specs.Outline.{read, _!_};
 ghost use Rattle.book.specs.Trees.{Readable};
+ghost use Rattle.book.specs.Faults.{isDeclaration};
+ghost use Rattle.book.specs.Ahead.{Ahead};
 ghost use Rattle.types.specs.Standing.{held, Reads, Stands};
 ghost use Rattle.types.specs.Registered.{IsAlias};
 ghost use Rattle.types.specs.Aliased.{aliasRecord, isPlainAlias, FinishesAlias, SameBut, LowersAlias, Unlowered, LowersAliases};
@@ -125,6 +127,7 @@ fn is_plain_alias(book: &[u8], count: u16, n: u16) -> bool
 pub fn lower_aliases(
     book: &[u8],
     count: u16,
+    ahead: &[u16],
     scope: Scope,
     ctx: LowerCtx,
     ambiguous: &[bool],
@@ -135,7 +138,7 @@ pub fn lower_aliases(
     results: &mut [u8],
     diagnostics: &mut [u8],
 ) -> Part
-    requires { ⌜ (count ≡ recordCount (now book)) × Reads (now book) scope (now ambiguous) (now generics) × Unlowered (now book) (now aliases) ⌝ }
+    requires { ⌜ (count ≡ recordCount (now book)) × Reads (now book) scope (now ambiguous) (now generics) × Unlowered (now book) (now aliases) × Ahead isDeclaration (now book) (now ahead) ⌝ }
     requires { ⌜ Stands (now book) scope (now aliases) ctx (held (now numbers) (now pairs) (now results) (now diagnostics)) ⌝ }
     ensures { λ r. ⌜ LowersAliases (now (book .entry)) scope (now (aliases .entry)) ctx
         (held (now (numbers .entry)) (now (pairs .entry)) (now (results .entry)) (now (diagnostics .entry))) r (now (aliases .exit))
@@ -165,7 +168,8 @@ pub fn lower_aliases(
                 Lowered::Stopped(stop) => return Part::Refused { stop, place: n },
             }
         }
-        n += 1;
+        let here = n as usize;
+        n = ahead[here];
     }
     Part::Lowered(behind)
 }

@@ -6,6 +6,7 @@ mod find;
 mod leaf;
 pub mod register;
 pub mod resolve;
+mod walk;
 pub mod write;
 
 // Names are below this number, a book has at most so many records, and so many results are written.

@@ -7,6 +7,8 @@ ghost use Rattle.book.specs.Lists.{at};
 ghost use Rattle.book.specs.Blocks.{recordCount, records, wildcards};
 ghost use Rattle.book.specs.Outline.{read};
 ghost use Rattle.book.specs.Trees.{Readable};
+ghost use Rattle.book.specs.Faults.{isDeclaration};
+ghost use Rattle.book.specs.Ahead.{Ahead};
 ghost use Rattle.types.specs.Numbers.{parameters};
 ghost use Rattle.types.specs.Below.{namesBelow};
 ghost use Rattle.types.specs.Registered.{parameterOf, IsAlias, Clear, Typed, Registered};
@@ -58,8 +60,14 @@ pub fn names_below(book: &[u8], count: u16, n: u16) -> bool
 }
 
 // Numbers messages, unions and newtypes from 0, and marks the names that are ambiguous. How many numbers there are.
-fn register_types(book: &[u8], count: u16, ambiguous: &mut [bool], numbers: &mut [u32]) -> u32
-    requires { ⌜ Readable (now book) × (count ≡ recordCount (now book)) ⌝ }
+fn register_types(
+    book: &[u8],
+    count: u16,
+    ahead: &[u16],
+    ambiguous: &mut [bool],
+    numbers: &mut [u32],
+) -> u32
+    requires { ⌜ Readable (now book) × (count ≡ recordCount (now book)) × Ahead isDeclaration (now book) (now ahead) ⌝ }
     requires { ⌜ Clear (now book) (now ambiguous) (now numbers) ⌝ }
     ensures { λ r. ⌜ Typed (now (book .entry)) (length (now (numbers .entry))) r (now (ambiguous .exit)) (now (numbers .exit)) ⌝ }
 {
@@ -81,26 +89,28 @@ fn register_types(book: &[u8], count: u16, ambiguous: &mut [bool], numbers: &mut
             }
             _ => {}
         }
-        n += 1;
+        let here = n as usize;
+        n = ahead[here];
     }
     next
 }
 
-// Numbers the declarations of a book. What is the same for the whole book.
+// Numbers the declarations of a book, `ahead` having the next one behind each record. What is the same for the whole book.
 pub fn register_declarations(
     book: &[u8],
     count: u16,
+    ahead: &[u16],
     imports: bool,
     ambiguous: &mut [bool],
     generics: &mut [u32],
     numbers: &mut [u32],
 ) -> Scope
-    requires { ⌜ Readable (now book) × (count ≡ recordCount (now book)) × (imports ≡ wildcards (now book)) ⌝ }
+    requires { ⌜ Readable (now book) × (count ≡ recordCount (now book)) × (imports ≡ wildcards (now book)) × Ahead isDeclaration (now book) (now ahead) ⌝ }
     requires { ⌜ Clear (now book) (now ambiguous) (now numbers) × (length (now numbers) ≤ 4096) × (count ≤ length (now generics)) ⌝ }
     ensures { λ r. ⌜ Registered (now (book .entry)) (length (now (numbers .entry))) r (now (ambiguous .exit)) (now (generics .entry))
         (now (generics .exit)) (now (numbers .exit)) ⌝ }
 {
-    let types = register_types(book, count, ambiguous, numbers);
+    let types = register_types(book, count, ahead, ambiguous, numbers);
     let mut next = types;
     let mut n: u16 = 0;
     while n < count {
@@ -114,7 +124,8 @@ pub fn register_declarations(
                 next += 1;
             }
         }
-        n += 1;
+        let here = n as usize;
+        n = ahead[here];
     }
     Scope {
         types,

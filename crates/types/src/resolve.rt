@@ -1,6 +1,8 @@
 // The two resolvers, over type records. The remaining depth falls at every call.
 
 ghost use mathlib.Core.Path.{_≡_};
+ghost use mathlib.Core.List.{List};
+ghost use Prim.Native.Nat.{ℕ, _<_};
 ghost use Rattle.record.specs.Layout.{recordAt};
 ghost use Rattle.book.specs.Outline.{read};
 ghost use Rattle.types.specs.Resolve.{resolveType, resolveTypeExpr, resolveTypeExprWithSubstitution};
@@ -14,7 +16,10 @@ use crate::Stop;
 use crate::find;
 use crate::find::Head;
 use crate::leaf;
+use crate::walk;
+use crate::walk::Spot;
 use crate::write;
+use record::Record;
 use record::Span;
 
 // The steps that a type may take to be resolved.
@@ -60,23 +65,63 @@ pub(crate) fn resolve_type_expr(
         6 => {
             let head = find::find_head(r.a, scope, aliases, generics, numbers, results);
             match head {
-                Head::Alias { parameter, target } => resolve_type_expr_with_substitution(
-                    left - 1,
-                    book,
-                    parameter,
-                    r.b,
-                    target,
-                    span,
-                    scope,
-                    ctx,
-                    ambiguous,
-                    aliases,
-                    generics,
-                    numbers,
-                    pairs,
-                    results,
-                    diagnostics,
-                ),
+                Head::Alias { parameter, target } => {
+                    let at = walk::walk(
+                        Spot {
+                            left: left - 1,
+                            n: target,
+                            inside: true,
+                            parameter,
+                            argument: r.b,
+                        },
+                        book,
+                        scope,
+                        aliases,
+                        generics,
+                        numbers,
+                        results,
+                    );
+                    // A primitive, sub-byte or semantic type takes no further step.
+                    let t = record::record_at(book, at.n);
+                    if (0 < at.left) & (t.kind < 4) {
+                        return write::emit(leaf::plain_record(t), ctx, results);
+                    }
+                    if at.inside {
+                        resolve_type_expr_with_substitution(
+                            at.left,
+                            book,
+                            at.parameter,
+                            at.argument,
+                            at.n,
+                            span,
+                            scope,
+                            ctx,
+                            ambiguous,
+                            aliases,
+                            generics,
+                            numbers,
+                            pairs,
+                            results,
+                            diagnostics,
+                        )
+                    } else {
+                        resolve_type_expr(
+                            at.left,
+                            book,
+                            at.n,
+                            span,
+                            scope,
+                            ctx,
+                            ambiguous,
+                            aliases,
+                            generics,
+                            numbers,
+                            pairs,
+                            results,
+                            diagnostics,
+                        )
+                    }
+                }
                 Head::NoAlias => write::poison(3, r.a, 0, 1, span, ctx, results, diagnostics),
                 Head::NoNumber => write::poison(4, r.a, 0, 0, span, ctx, results, diagnostics),
             }
@@ -181,21 +226,61 @@ fn resolve_type_expr_with_substitution(
     let r = record::record_at(book, n);
     let kind = r.kind;
     if (kind == 4) & (r.a == parameter) {
-        return resolve_type_expr(
-            left - 1,
+        let at = walk::walk(
+            Spot {
+                left: left - 1,
+                n: argument,
+                inside: false,
+                parameter,
+                argument,
+            },
             book,
-            argument,
-            span,
             scope,
-            ctx,
-            ambiguous,
             aliases,
             generics,
             numbers,
-            pairs,
             results,
-            diagnostics,
         );
+        // A primitive, sub-byte or semantic type takes no further step.
+        let t = record::record_at(book, at.n);
+        if (0 < at.left) & (t.kind < 4) {
+            return write::emit(leaf::plain_record(t), ctx, results);
+        }
+        return if at.inside {
+            resolve_type_expr_with_substitution(
+                at.left,
+                book,
+                at.parameter,
+                at.argument,
+                at.n,
+                span,
+                scope,
+                ctx,
+                ambiguous,
+                aliases,
+                generics,
+                numbers,
+                pairs,
+                results,
+                diagnostics,
+            )
+        } else {
+            resolve_type_expr(
+                at.left,
+                book,
+                at.n,
+                span,
+                scope,
+                ctx,
+                ambiguous,
+                aliases,
+                generics,
+                numbers,
+                pairs,
+                results,
+                diagnostics,
+            )
+        };
     }
     match kind {
         6 => {
@@ -203,23 +288,63 @@ fn resolve_type_expr_with_substitution(
             // An inner generic passes its argument on as it stands.
             let passed = r.b;
             match head {
-                Head::Alias { parameter, target } => resolve_type_expr_with_substitution(
-                    left - 1,
-                    book,
-                    parameter,
-                    passed,
-                    target,
-                    span,
-                    scope,
-                    ctx,
-                    ambiguous,
-                    aliases,
-                    generics,
-                    numbers,
-                    pairs,
-                    results,
-                    diagnostics,
-                ),
+                Head::Alias { parameter, target } => {
+                    let at = walk::walk(
+                        Spot {
+                            left: left - 1,
+                            n: target,
+                            inside: true,
+                            parameter,
+                            argument: passed,
+                        },
+                        book,
+                        scope,
+                        aliases,
+                        generics,
+                        numbers,
+                        results,
+                    );
+                    // A primitive, sub-byte or semantic type takes no further step.
+                    let t = record::record_at(book, at.n);
+                    if (0 < at.left) & (t.kind < 4) {
+                        return write::emit(leaf::plain_record(t), ctx, results);
+                    }
+                    if at.inside {
+                        resolve_type_expr_with_substitution(
+                            at.left,
+                            book,
+                            at.parameter,
+                            at.argument,
+                            at.n,
+                            span,
+                            scope,
+                            ctx,
+                            ambiguous,
+                            aliases,
+                            generics,
+                            numbers,
+                            pairs,
+                            results,
+                            diagnostics,
+                        )
+                    } else {
+                        resolve_type_expr(
+                            at.left,
+                            book,
+                            at.n,
+                            span,
+                            scope,
+                            ctx,
+                            ambiguous,
+                            aliases,
+                            generics,
+                            numbers,
+                            pairs,
+                            results,
+                            diagnostics,
+                        )
+                    }
+                }
                 Head::NoAlias => write::poison(3, r.a, 0, 1, span, ctx, results, diagnostics),
                 Head::NoNumber => write::poison(1, r.a, 0, 0, span, ctx, results, diagnostics),
             }
@@ -299,6 +424,16 @@ fn resolve_type_expr_with_substitution(
     }
 }
 
+// The type r of a declaration or an item that takes no further step: a primitive, sub-byte or semantic one.
+pub fn plain_type(r: Record, ctx: LowerCtx, results: &mut [u8]) -> Resolved
+    ensures { λ x. ⌜ ((bytes : List ℕ) (n : ℕ) (scope : Scope) (aliases numbers pairs diagnostics : List ℕ) →
+        IsType bytes n → r ≡ recordAt bytes n → r .kind < 4 →
+        Resolves bytes scope aliases ctx (held numbers pairs (now (results .entry)) diagnostics) (resolveType (read bytes) n) x
+        (held numbers pairs (now (results .exit)) diagnostics)) ⌝ }
+{
+    write::emit(leaf::plain_record(r), ctx, results)
+}
+
 // The type at record n of a declaration or an item.
 pub fn resolve_type(
     book: &[u8],
@@ -321,9 +456,8 @@ pub fn resolve_type(
         (held (now (numbers .exit)) (now (pairs .exit)) (now (results .exit)) (now (diagnostics .exit))) ⌝ }
 {
     let r = record::record_at(book, n);
-    // Primitive, sub-byte and semantic types, which most are, take no further step.
     if r.kind < 4 {
-        return write::emit(leaf::plain_record(r), ctx, results);
+        return plain_type(r, ctx, results);
     }
     resolve_type_expr(
         DEPTH,

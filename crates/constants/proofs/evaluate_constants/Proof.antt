@@ -7,7 +7,7 @@ use Rattle.constants.proofs.evaluate_constants.Tie as tie
 
 evaluate-few-requires : tie.Need-evaluate-few-requires
 evaluate-few-requires c κs =
-    let pre = c .before .before .before .before .before .before .before .before .before .before .before .before .before .pre in
+    let pre = c .before .before .before .before .before .before .before .before .before .before .before .before .before .before .pre in
     let few = c .before .before .before .before .before .if2 .taken in
     (pre .0, (pre .1, (λ n x. omega (arith, pre .1 .names n x), c .before .before .before .before .before .before .if1 .taken)))
 

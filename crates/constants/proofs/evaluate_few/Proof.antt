@@ -8,7 +8,7 @@ use Rattle.constants.proofs.evaluate_few.Tie as tie
 
 evaluate-with-requires : tie.Need-evaluate-with-requires
 evaluate-with-requires c κs =
-    let pre = c .before .before .before .before .before .before .before .before .before .before .before .before .before .before .before .before .before .before .pre in
+    let pre = c .before .before .before .before .before .before .before .before .before .before .before .before .before .before .before .before .before .before .before .pre in
     let (below, few) = pre .1 .1 in
     (pre .0, (pre .1 .0, works 256 336 below (omega arith) (omega (arith, few, pre .0 .1)) (omega arith)))
 

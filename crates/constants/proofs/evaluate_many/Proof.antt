@@ -9,7 +9,7 @@ use Rattle.constants.proofs.evaluate_many.Tie as tie
 
 evaluate-with-requires : tie.Need-evaluate-with-requires
 evaluate-with-requires c κs =
-    let pre = c .before .before .before .before .before .before .before .before .before .before .before .before .before .before .before .before .before .before .pre in
+    let pre = c .before .before .before .before .before .before .before .before .before .before .before .before .before .before .before .before .before .before .before .pre in
     (pre .0, (pre .1, works 4096 1344 names-below (omega arith) (pre .0 .0 .few-records) (omega arith)))
 
 pub evaluate-many-spec : {M : Type 1} → statement M

@@ -12,13 +12,13 @@ use Rattle.constants.proofs.evaluate_with.Statement.{statement}
 use Rattle.constants.proofs.evaluate_with.Tie as tie
 
 -- there are no more constants than records
-few : (c : tie.After-declare-constants) → c .declare-constants .result ≤ recordCount (now (c .before .before .before .before .before .before .before .before .before .before .before .before .before .before .before .before .args .book))
-few c = omega (arith, all-placed (c .declare-constants .ensures .0), fewer-constants (c .before .before .before .before .before .before .before .before .before .before .before .before .before .before .before .before .pre .0 .0))
+few : (c : tie.After-declare-constants) → c .declare-constants .result ≤ recordCount (now (c .before .before .before .before .before .before .before .before .before .before .before .before .before .before .before .before .before .args .book))
+few c = omega (arith, all-placed (c .declare-constants .ensures .0), fewer-constants (c .before .before .before .before .before .before .before .before .before .before .before .before .before .before .before .before .before .pre .0 .0))
 
 admit-constants-requires : tie.Need-admit-constants-requires
 admit-constants-requires c κs =
     let d = c .before .before .before .before .before .before .before .before in
-    let pre = c .before .before .before .before .before .before .before .before .before .before .before .before .before .before .before .before .before .before .before .before .before .before .before .before .pre in
+    let pre = c .before .before .before .before .before .before .before .before .before .before .before .before .before .before .before .before .before .before .before .before .before .before .before .before .before .pre in
     let works = pre .1 .1 in (
       (pre .0 .0, d .declare-constants .ensures .0, d .declare-constants .ensures .1),
       (omega (arith, works .seen-long, c .before .before .before .before .before .undone .given), works .unstamped, omega (arith, works .waits-long, few d)),
@@ -27,7 +27,7 @@ admit-constants-requires c κs =
 hint-constants-requires : tie.Need-hint-constants-requires
 hint-constants-requires c κs =
     let d = c .before .before .before .before .before .before .before .before .before .before .before .before .before .before .before .before .before in
-    let pre = c .before .before .before .before .before .before .before .before .before .before .before .before .before .before .before .before .before .before .before .before .before .before .before .before .before .before .before .before .before .before .before .before .before .pre in
+    let pre = c .before .before .before .before .before .before .before .before .before .before .before .before .before .before .before .before .before .before .before .before .before .before .before .before .before .before .before .before .before .before .before .before .before .before .pre in
     let works = pre .1 .1 in (
       (pre .0 .0, d .declare-constants .ensures .0),
       (works .named-few, omega (arith, works .hints-long, few d), omega (arith, works .ends-long, few d)),
@@ -36,7 +36,7 @@ hint-constants-requires c κs =
 settle-constants-requires : tie.Need-settle-constants-requires
 settle-constants-requires c κs =
     let d = c .before .before .before .before .before .before .before .before .before .before .before .before .before .before .before .before .before .before .before .before .before .before .before .before .before .before .before .before .before .before .before .before .before .before .before in
-    let pre = c .before .before .before .before .before .before .before .before .before .before .before .before .before .before .before .before .before .before .before .before .before .before .before .before .before .before .before .before .before .before .before .before .before .before .before .before .before .before .before .before .before .before .before .before .before .before .before .before .before .before .before .pre in (
+    let pre = c .before .before .before .before .before .before .before .before .before .before .before .before .before .before .before .before .before .before .before .before .before .before .before .before .before .before .before .before .before .before .before .before .before .before .before .before .before .before .before .before .before .before .before .before .before .before .before .before .before .before .before .before .pre in (
       (pre .0 .0, d .declare-constants .ensures .0),
       (
         (d .declare-constants .ensures .1, c .before .before .before .before .before .before .before .before .before .before .before .before .before .before .before .before .before .before .before .before .before .before .before .before .before .before .admit-constants .ensures, c .before .before .before .before .before .before .before .before .before .before .before .before .before .before .before .before .before .hint-constants .ensures),

@@ -17,8 +17,8 @@ lower-items-requires c κs =
     let e = c .before .before .before .before .before .before .before .before .before in
     let d = e .before .before in
     let p = d .before in
-    let pre = p .before .before .before .before .before .before .before .before .pre in (
-      (is-decl (pre .0 .0) (omega arith) (omega arith), pre .0 .1),
+    let pre = p .before .before .before .before .before .before .before .before .before .pre in (
+      (is-decl (pre .0 .0) (omega arith) (omega arith), pre .0 .1, pre .0 .2),
       (pre .1 .0, first-stands _ (e .emit-last .ensures _ _ _ _ _ _ (is-result d)) _ (c .before .before .before .before .before .behind .given .1) (pre .1 .1)),
     )
 
@@ -28,7 +28,7 @@ returns c =
     let e = i .before .before .before .before .before .before .before .before .before .before in
     let d = e .before .before in
     let p = d .before in
-    union-written (p .before .before .before .before .before .before .before .before .pre .0 .0) (p .record-at .ensures) (e .emit-last .ensures _ _ _ _ _ _ (is-result d)) (d .carried .ensures)
+    union-written (p .before .before .before .before .before .before .before .before .before .pre .0 .0) (p .record-at .ensures) (e .emit-last .ensures _ _ _ _ _ _ (is-result d)) (d .carried .ensures)
     _ (i .before .before .before .before .before .before .behind .given .1) (i .lower-items .ensures)
 
 returns-2 : tie.Need-returns-2
@@ -36,7 +36,7 @@ returns-2 c =
     let e = c .before .before .before .before .before in
     let d = e .before .before in
     let p = d .before in
-    union-refused (p .before .before .before .before .before .before .before .before .pre .0 .0) (p .record-at .ensures) (e .emit-last .ensures _ _ _ _ _ _ (is-result d)) (d .carried .ensures)
+    union-refused (p .before .before .before .before .before .before .before .before .before .pre .0 .0) (p .record-at .ensures) (e .emit-last .ensures _ _ _ _ _ _ (is-result d)) (d .carried .ensures)
     _ (c .before .stop .given .1)
 
 pub lower-union-spec : {M : Type 1} → statement M

@@ -11,7 +11,7 @@ use Rattle.bodies.proofs.items.finish_field.Tie as tie
 lower-constraint-requires : tie.Need-lower-constraint-requires
 lower-constraint-requires c κs =
     let p = c .before .before .before .before .before in
-    field-constraint (p .before .before .before .pre .0) (p .record-at .ensures)
+    field-constraint (p .before .before .before .before .pre .0) (p .record-at .ensures)
 
 returns : tie.Need-returns
 returns c numbers pairs diagnostics =
@@ -24,7 +24,7 @@ returns c numbers pairs diagnostics =
     let o = u .before in
     let t = o .before in
     let p = t .before .before in
-    let s = p .before .before .before in
+    let s = p .before .before .before .before in
     field-finished (s .pre .0) (p .record-at .ensures) (s .args .delta)
     (λ scope aliases. b .lower-constraint .ensures scope aliases numbers pairs diagnostics) _ _ (m .before .before .c .given .1) (m .carried .ensures)
     (λ scope aliases.
@@ -48,7 +48,7 @@ returns-2 c numbers pairs diagnostics =
     let m = e .before .before in
     let b = m .before .before .before .before .before .before in
     let p = b .before .before .before .before .before .before in
-    let s = p .before .before .before in
+    let s = p .before .before .before .before in
     field-refused (s .pre .0) (p .record-at .ensures) (s .args .delta)
     (λ scope aliases. b .lower-constraint .ensures scope aliases numbers pairs diagnostics) _ _ (m .before .before .c .given .1) (m .carried .ensures)
     (λ scope aliases.
@@ -59,7 +59,7 @@ returns-3 : tie.Need-returns-3
 returns-3 c numbers pairs diagnostics =
     let b = c .before .before .before .before .before in
     let p = b .before .before .before .before .before .before in
-    let s = p .before .before .before in
+    let s = p .before .before .before .before in
     constraint-refused (s .pre .0) (p .record-at .ensures) (s .args .delta)
     (λ scope aliases. b .lower-constraint .ensures scope aliases numbers pairs diagnostics) _ (c .before .stop2 .given .1)
 

@@ -10,21 +10,21 @@ lower-field-requires : tie.Need-lower-field-requires
 lower-field-requires c κs =
     let m = c .before .before .before .before in
     let p = m .before in
-    let pre = p .before .before .before .before .before .before .before .before .pre in
-    ((item-at (pre .0 .0) refl 31 (sym (p .kind-at .ensures) ∙ m .match .keys1), pre .0 .1), pre .1)
+    let pre = p .before .before .before .before .before .before .before .before .before .pre in
+    ((item-at (pre .0 .0) refl 31 (sym (p .kind-at .ensures) ∙ m .match .keys1), pre .0 .1, pre .0 .2), pre .1)
 
 lower-tombstone-requires : tie.Need-lower-tombstone-requires
 lower-tombstone-requires c κs =
     let m = c .before .before .before .before in
     let p = m .before in
-    let pre = p .before .before .before .before .before .before .before .before .pre in
+    let pre = p .before .before .before .before .before .before .before .before .before .pre in
     ((item-at (pre .0 .0) refl 32 (sym (p .kind-at .ensures) ∙ m .match .keys2), pre .0 .1), pre .1)
 
 lower-variant-requires : tie.Need-lower-variant-requires
 lower-variant-requires c κs =
     let m = c .before in
     let p = m .before in
-    let x = p .before .before .before .before .before .before .before .before .pre .0 .0 in
+    let x = p .before .before .before .before .before .before .before .before .before .pre .0 .0 in
     item-at x refl 33 (else-variant x refl (λ e. m .match .rest .0 .1 (p .kind-at .ensures ∙ e)) (λ e. m .match .rest .1 (p .kind-at .ensures ∙ e)))
 
 returns : tie.Need-returns
@@ -32,7 +32,7 @@ returns c =
     let e = c .before .before .before .before .before .before in
     let m = e .before .before .before .before .before in
     let p = m .before in
-    let s = p .before .before .before .before .before .before .before .before in
+    let s = p .before .before .before .before .before .before .before .before .before in
     item-field (s .pre .0 .0) refl (s .args .delta) (sym (p .kind-at .ensures) ∙ m .match .keys1) (e .lower-field .ensures)
 
 returns-2 : tie.Need-returns-2
@@ -40,7 +40,7 @@ returns-2 c =
     let e = c .before .before .before .before .before .before in
     let m = e .before .before .before .before .before in
     let p = m .before in
-    let s = p .before .before .before .before .before .before .before .before in
+    let s = p .before .before .before .before .before .before .before .before .before in
     item-tombstone (s .pre .0 .0) refl (s .args .delta) (sym (p .kind-at .ensures) ∙ m .match .keys2) (e .lower-tombstone .ensures)
 
 returns-3 : tie.Need-returns-3
@@ -48,7 +48,7 @@ returns-3 c =
     let e = c .before .before in
     let m = e .before .before in
     let p = m .before in
-    let s = p .before .before .before .before .before .before .before .before in
+    let s = p .before .before .before .before .before .before .before .before .before in
     let x = s .pre .0 .0 in
     item-variant x refl (s .args .delta)
     (else-variant x refl (λ e. m .match .rest .0 .1 (p .kind-at .ensures ∙ e)) (λ e. m .match .rest .1 (p .kind-at .ensures ∙ e)))

@@ -21,11 +21,11 @@ use Rattle.book.proofs.scan.first_by.Statement.{statement}
 use Rattle.book.proofs.scan.first_by.Tie as tie
 
 abbrev Inv-loop : tie.InvT-loop
-Inv-loop book count table follow place₀ roots₀ names₀ depths₀ n₀ place roots names depths n =
+Inv-loop book count table first follow place₀ roots₀ names₀ depths₀ n₀ place roots names depths n =
     Passed (holds book) atRecord n count × Placed (before (records book) n) place × Kept book n roots names depths
 
 abbrev μ-loop : tie.MeasureT-loop
-μ-loop book count table follow place₀ roots₀ names₀ depths₀ n₀ place roots names depths n = count - n
+μ-loop book count table first follow place₀ roots₀ names₀ depths₀ n₀ place roots names depths n = count - n
 
 loop-holds : tie.Need-loop-holds Inv-loop μ-loop
 loop-holds c =

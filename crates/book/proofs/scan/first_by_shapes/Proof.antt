@@ -9,7 +9,7 @@ use Rattle.book.proofs.scan.first_by_shapes.Tie as tie
 
 first-by-requires : tie.Need-first-by-requires
 unfolding any behind followOf
-first-by-requires c κs = (search needs, (c .before .before .pre .1, follow-is))
+first-by-requires c κs = let pre = c .before .before .pre .1 in (search needs, (pre .0, pre .1, follow-is))
 
 pub first-by-shapes-spec : {M : Type 1} → statement M
 first-by-shapes-spec = tie.close (tie.spec first-by-requires (λ c. search needs))

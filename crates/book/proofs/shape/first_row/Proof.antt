@@ -1,17 +1,13 @@
--- `book::shape::first_row` meets its contract: the table is the rule, cell by cell.
+-- `book::shape::first_row` meets its contract: the list that is lent is the rule, kind by kind.
 -- Assumes nothing.
 use mathlib.Core.Path.{sym}
 use borrow.Author.Needs.{needs}
-use Rattle.book.specs.Shape.{table}
-use Rattle.book.specs.Rows.{firstRow}
 use Rattle.book.proofs.Cells.{first-past}
-use Rattle.book.proofs.Filled.{cell-at}
 use Rattle.book.proofs.shape.first_row.Statement.{statement}
 use Rattle.book.proofs.shape.first_row.Tie as tie
 
 returns : tie.Need-returns
-unfolding firstRow table
-returns c = cell-at (λ k. firstRow k table) 0 37 (c .before .args .kind) (c .if1 .taken)
+returns c = c .before .before .pre .rows (c .before .before .args .kind) (c .before .if1 .taken)
 
 returns-2 : tie.Need-returns-2
 returns-2 c = sym (first-past (c .before .args .kind) (c .if1 .left))

@@ -12,10 +12,10 @@ use Rattle.book.proofs.shape.row_of.Statement.{statement}
 use Rattle.book.proofs.shape.row_of.Tie as tie
 
 abbrev Inv-loop : tie.InvT-loop
-Inv-loop r table row₀ row = (row ≤ 38) × (rowOf r ≡ rowFrom r row)
+Inv-loop r table first row₀ row = (row ≤ 38) × (rowOf r ≡ rowFrom r row)
 
 abbrev μ-loop : tie.MeasureT-loop
-μ-loop r table row₀ row = 38 - row
+μ-loop r table first row₀ row = 38 - row
 
 loop-holds : tie.Need-loop-holds Inv-loop μ-loop
 loop-holds c = first-from (c .before .args .r) (c .first-row .ensures)
@@ -47,9 +47,9 @@ row-of-spec =
     (tie.spec
     Inv-loop
     μ-loop
-    (λ c κs. search needs)
+    (λ c κs. c .pre .1)
     loop-holds
-    (λ c κs. (search needs, c .before .before .before .pre))
+    (λ c κs. (search needs, c .before .before .before .pre .0))
     returns
     (λ c. omega arith)
     (λ c. omega arith)

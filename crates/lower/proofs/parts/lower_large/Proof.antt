@@ -9,14 +9,23 @@ use Rattle.lower.proofs.parts.lower_large.Tie as tie
 
 lower-with-requires : tie.Need-lower-with-requires
 lower-with-requires c κs =
-    let s = c .before .before .before .before .before .before .before .before .before .before .before .before .before .before in
-    let below = (all-names-below (s .pre .0)) in
-    (s .pre, (values-clear 4096 1344 below (s .pre .0 .few-records), tables-clear 4096 1344 below (s .pre .0 .few-records) (omega arith)))
+    let l = c .before .before .before .before .before .before .before .before .before .before .before .before .before .before .before .look-ahead .ensures in
+    let s = c .before .before .before .before .before .before .before .before .before .before .before .before .before .before .before .before .before .before .before .before .before in
+    let (readable, count, imports) = s .pre in
+    let below = all-names-below readable in (
+      (readable, count, imports, l .0, l .1),
+      (values-clear 4096 1344 below (readable .few-records), tables-clear 4096 1344 below (readable .few-records) (omega arith)),
+    )
 
 pub lower-large-spec : {M : Type 1} → statement M
 lower-large-spec =
     tie.close
     (tie.spec
+    (λ c. search needs)
+    (λ c. search needs)
+    (λ c κs. search needs)
+    (λ c. search needs)
+    (λ c. search needs)
     (λ c. search needs)
     (λ c. search needs)
     (λ c. search needs)

@@ -14,9 +14,9 @@ lower-bodies-requires : tie.Need-lower-bodies-requires
 lower-bodies-requires c κs =
     let e = c .before .before .before .before .before in
     let l = c .before .before .before .before .before .before .before .before .before .before .before .before .before in
-    let p = l .before .before .before .before .before .before .before .before .before .before .before .before .before .before .before .pre in
+    let p = l .before .before .before .before .before .before .before .before .before .before .before .before .before .before .before .before .before .pre in
     let st = p .1 .1 in (
-      p .0 .0,
+      (p .0 .0, p .0 .2, p .0 .3),
       (
         p .1 .0,
         stands-behind (rw (e .end .given .1) at (l .lower-constants .ensures (st .lent) (st .place) (st .names) (st .state) (st .from))),
@@ -28,13 +28,13 @@ returns c lent place k s f =
     let b = c .before .before .before .before .before .before in
     let e = c .before .before .before .before .before .before .before .before .before .before .before .before in
     let l = c .before .before .before .before .before .before .before .before .before .before .before .before .before .before .before .before .before .before .before .before in
-    let book = read (now (l .before .before .before .before .before .before .before .before .before .before .before .before .before .before .before .args .book)) in
+    let book = read (now (l .before .before .before .before .before .before .before .before .before .before .before .before .before .before .before .before .before .args .book)) in
     part-then (lowerConstants book (settled book)) (lowerBodies book) k s (e .end .given .1) (l .lower-constants .ensures lent place k s f) (b .lower-bodies .ensures)
 
 returns-2 : tie.Need-returns-2
 returns-2 c lent place k s f =
     let l = c .before .before .before .before .before .before .before .before .before in
-    let book = read (now (l .before .before .before .before .before .before .before .before .before .before .before .before .before .before .before .args .book)) in
+    let book = read (now (l .before .before .before .before .before .before .before .before .before .before .before .before .before .before .before .before .before .args .book)) in
     part-refused (lowerConstants book (settled book)) (lowerBodies book) k s (c .before .end2 .given .1)
     (l .lower-constants .ensures lent place k s f)
 

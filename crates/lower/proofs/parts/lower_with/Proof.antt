@@ -12,19 +12,19 @@ use Rattle.lower.proofs.parts.lower_with.Tie as tie
 
 evaluate-constants-requires : tie.Need-evaluate-constants-requires
 evaluate-constants-requires c κs =
-    let p = c .before .before .before .before .before .before .before .before .before .before .before .before .before .before .before .before .before .pre in
-    ((p .0 .0, p .0 .1), rw (p .0 .1) (p .1 .0 .room))
+    let p = c .before .before .before .before .before .before .before .before .before .before .before .before .before .before .before .before .before .before .before .pre in
+    ((p .0 .0, p .0 .1, p .0 .3), rw (p .0 .1) (p .1 .0 .room))
 
 lower-records-requires : tie.Need-lower-records-requires
 lower-records-requires c κs =
     let e = c .before .before .before .before .before .before .before .before .before .before .before .before .before .before .before .before .before .before .before in
-    let p = c .before .before .before .before .before .before .before .before .before .before .before .before .before .before .before .before .before .before .before .before .before .before .before .before .before .before .before .before .before .before .before .before .before .before .before .before .before .pre in
-    ((p .0 .1, p .0 .2, evaluated-holds (p .0 .0) (p .1 .0 .known-are) (e .evaluate-constants .ensures)), p .1 .1)
+    let p = c .before .before .before .before .before .before .before .before .before .before .before .before .before .before .before .before .before .before .before .before .before .before .before .before .before .before .before .before .before .before .before .before .before .before .before .before .before .before .before .pre in
+    ((p .0 .1, p .0 .2, evaluated-holds (p .0 .0) (p .1 .0 .known-are) (e .evaluate-constants .ensures), p .0 .3, p .0 .4), p .1 .1)
 
 count-stored-requires : tie.Need-count-stored-requires
 count-stored-requires c κs =
     let e = c .before .before .before .before .before .before .before .before .before .before .before .before .before .before .before .before .before .before .before .before .before .before .before .before .before .before .before .before .before .before .before .before .before in
-    let s = c .before .before .before .before .before .before .before .before .before .before .before .before .before .before .before .before .before .before .before .before .before .before .before .before .before .before .before .before .before .before .before .before .before .before .before .before .before .before .before .before .before .before .before .before .before .before .before .before .before .before .before in
+    let s = c .before .before .before .before .before .before .before .before .before .before .before .before .before .before .before .before .before .before .before .before .before .before .before .before .before .before .before .before .before .before .before .before .before .before .before .before .before .before .before .before .before .before .before .before .before .before .before .before .before .before .before .before .before in
     let h = evaluated-holds (s .pre .0 .0) (s .pre .1 .0 .known-are) (e .evaluate-constants .ensures) in
     front-long (λ x. hasValue (x .value)) (settled (read (now (s .args .book)))) _ _ (h .count) (h .stored-is)
 
@@ -49,7 +49,7 @@ returns c =
     let n = c .before .before .before .before .before .before .before in
     let l = c .before .before .before .before .before .before .before .before .before .before .before .before .before .before .before .before .before .before .before .before .before in
     let e = c .before .before .before .before .before .before .before .before .before .before .before .before .before .before .before .before .before .before .before .before .before .before .before .before .before .before .before .before .before .before .before .before .before .before .before .before .before .before .before .before .before in
-    let p = c .before .before .before .before .before .before .before .before .before .before .before .before .before .before .before .before .before .before .before .before .before .before .before .before .before .before .before .before .before .before .before .before .before .before .before .before .before .before .before .before .before .before .before .before .before .before .before .before .before .before .before .before .before .before .before .before .before .before .before .pre in
+    let p = c .before .before .before .before .before .before .before .before .before .before .before .before .before .before .before .before .before .before .before .before .before .before .before .before .before .before .before .before .before .before .before .before .before .before .before .before .before .before .before .before .before .before .before .before .before .before .before .before .before .before .before .before .before .before .before .before .before .before .before .before .before .pre in
     replied (r .reply-to .result) (l .lower-records .ensures) (r .reply-to .ensures)
     (n .count-stored .ensures _ (evaluated-holds (p .0 .0) (p .1 .0 .known-are) (e .evaluate-constants .ensures) .stored-is))
 
