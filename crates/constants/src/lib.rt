@@ -155,8 +155,9 @@ fn evaluate_many(
 }
 
 // Evaluates the constants of a book, over values of names beforehand: `known` says which names have one, `worth` its 64
-// bits. `ahead` has the next declaration behind each record. The reached constants come in their order: `order` has their record numbers, `stored` whether each has a value,
-// and `values` that value or 0. Each value is put under its name in `known` and `worth`. The number of reached constants.
+// bits. `ahead` has the next declaration behind each record. The reached constants come in their order: `order` has
+// their record numbers, `stored` whether each has a value, and `values` that value or 0. Each value is put under its
+// name in `known` and `worth`. The number of reached constants.
 pub fn evaluate_constants(
     book: &[u8],
     count: u16,
