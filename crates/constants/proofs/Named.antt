@@ -1,5 +1,7 @@
 -- A reached constant of a book has the name of its record.
 -- Assumes nothing.
+use Rattle.constants.specs.Eval.{eval_const_expr}
+use Rattle.constants.specs.Eval.{store}
 use mathlib.Core.List.{List, [], ◌∷◌}
 use mathlib.Core.Path.{◌≡◌, refl}
 use Rattle.book.specs.Lists.{All}
@@ -13,7 +15,7 @@ use Rattle.constants.proofs.Values.{all_ordered}
 all-settle : (P : Constant → Type 0) (t : Table) (cs : List Constant) → All P cs → All (λ x. P x.constant) (settle t cs)
 unfolding settle
 all-settle P t [] h = tt
-all-settle P t (c ∷ cs) h = (h.0, all-settle P _ cs h.1)
+all-settle P t (c ∷ cs) h = (h.0, all-settle P (store t c.name (eval_const_expr t c.expr)) cs h.1)
 
 pub settled_named : (book : Book) → All (λ x. (book ! x.constant.place).a ≡ x.constant.name) (settled book)
 unfolding settled outcome constant_at

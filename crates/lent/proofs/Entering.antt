@@ -37,7 +37,7 @@ lent_of ctx book results diagnostics x results' diagnostics' s e =
 -- what the field says of the structs' tuples, the array says of the structs
 each-struct :
     (T : Declared) (xs : List T.D) (us : List Val) →
-    shadow (each (Denots (fields T)) (Struct (shape T)).own_val (map T.to xs) us) → shadow (each T.D (row T).own xs us)
+    shadow (each (Denots (fields T)) (Struct (shape T)).own_val (map T.to xs) us) → shadow (each T.D (row T).own_val xs us)
 each-struct T [] [] s = s
 each-struct T [] (u ∷ us) s = s
 each-struct T (x ∷ xs) [] s = s
