@@ -2,7 +2,7 @@
    with their fields, then the constants and the diagnostics. Names are numbers in a book: N17 is name 17. Unions, newtypes, aliases, constraints
    and tombstones are left out. Exits with 0 if every book is accepted, with 1 if one is refused or cannot be read, and with 2 if none is named.
 
-   rt staticlib lower
+   tools/staticlib lower
    cc -std=c99 -O2 -Iinclude -o fields examples/fields.c target/staticlib/liblower.a */
 #include "signal_book.h"
 #include <inttypes.h>

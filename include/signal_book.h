@@ -1,7 +1,7 @@
 /* Lowers a signal book: the one function of liblower.a, the numbers that it answers with, and a reader for its records. For C99 and later, and C++.
    docs/FORMAT.md is the format; examples/fields.c is a program that uses all of this.
 
-   rt staticlib lower                                                     proves the library and writes target/staticlib/liblower.a, for x86-64
+   tools/staticlib lower                                                  proves the library and writes target/staticlib/liblower.a, for x86-64
    cc -std=c99 -O2 -Iinclude -o NAME NAME.c target/staticlib/liblower.a   links a program with it; it calls memset alone */
 #ifndef SIGNAL_BOOK_H
 #define SIGNAL_BOOK_H
@@ -49,7 +49,7 @@ enum {
      length 0, the reply never. Book and slices can have any alignment; reply has that of uint64_t, 8, as in every C program.
    - No two of book, results, diagnostics and reply have a byte in common.
    - While the call is under way nobody writes to the book, and nobody else touches the slices or the reply.
-   - There is stack: a call takes at most 185,000 bytes (measured, tools/stack), so 256 KiB is plenty. Mind threads that are given less.
+   - There is stack: a call takes at most 158,000 bytes (measured, tools/stack), so 256 KiB is plenty. Mind threads that are given less.
 
    Nothing is kept: no pointer, no state; nothing is allocated, and nothing else is read or written. So it may be called from several threads at
    once, each with slices and a reply of its own; they may share a book. */

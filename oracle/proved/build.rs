@@ -1,5 +1,5 @@
 //! Finds the static library of the crate `book`, where it is asked for: in the folder `$SIGNAL_BOOK_STATICLIB`, else where
-//! `rt staticlib` writes it. That of `lower` is found by the crate `signal-book`.
+//! `tools/staticlib` writes it. That of `lower` is found by the crate `signal-book`.
 
 use std::path::PathBuf;
 use std::{env, process};
@@ -14,7 +14,7 @@ fn main() {
     let archive = folder.join("libbook.a");
     println!("cargo:rerun-if-changed={}", archive.display());
     if !archive.is_file() {
-        eprintln!("target/staticlib/libbook.a is not there: run `rt staticlib book` in the root of the repository");
+        eprintln!("target/staticlib/libbook.a is not there: run `tools/staticlib book` in the root of the repository");
         process::exit(1);
     }
     println!("cargo:rustc-link-search=native={}", folder.display());

@@ -1,4 +1,4 @@
-//! Finds the archive of the proved library: in the folder that `$SIGNAL_BOOK_STATICLIB` names, else where `rt staticlib lower`
+//! Finds the archive of the proved library: in the folder that `$SIGNAL_BOOK_STATICLIB` names, else where `tools/staticlib lower`
 //! writes it.
 
 use std::path::PathBuf;
@@ -23,7 +23,7 @@ fn main() {
     println!("cargo:rerun-if-changed={}", archive.display());
     if !archive.is_file() {
         stop(format!(
-            "{} is not there: run `rt staticlib lower` in the root of the repository, \
+            "{} is not there: run `tools/staticlib lower` in the root of the repository, \
              or name the folder that has liblower.a in SIGNAL_BOOK_STATICLIB",
             archive.display()
         ));

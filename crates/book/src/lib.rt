@@ -91,9 +91,8 @@ pub fn number(cause: Cause) -> u8
 }
 
 // Reads a book for a caller in Rust or C: 0 where it is accepted, else the number of the cause times 65,536, and the
-// place.
-#[unsafe(no_mangle)]
-pub extern "C" fn book_refusal(book: &[u8]) -> u32
+// place. `book_c` exports it.
+pub fn book_refusal(book: &[u8]) -> u32
     ensures { result ≡ refusal_word (read_book book.now) }
 {
     match read_book(book) {

@@ -116,9 +116,8 @@ fn reply_words(reply: Reply) -> [u64; 4]
     }
 }
 
-// Lowers a book for a caller in Rust or C, with the reply in four words.
-#[unsafe(no_mangle)]
-pub extern "C" fn signal_book_lower(
+// Lowers a book for a caller in Rust or C, with the reply in four words: `lower_c` exports it.
+pub fn signal_book_lower(
     book: &[u8],
     results: &mut [u8],
     diagnostics: &mut [u8],
