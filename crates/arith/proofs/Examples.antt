@@ -3,7 +3,7 @@
 use Prim.Native.Nat.{◌^◌, ◌-◌}
 use mathlib.Core.Option.{some, none}
 use mathlib.Core.Path.{◌≡◌, refl}
-use lib.IntN.{ℤ, pos, negsuc, ◌+ℤ◌, ◌-ℤ◌}
+use lib.IntN.{pos, negsuc, ◌+ℤ◌, ◌-ℤ◌}
 use Rattle.arith.specs.Checked.{fitting, checked_add, checked_sub, checked_mul, checked_div}
 use Rattle.arith.specs.Word.{MIN, MAX, as_i64}
 

@@ -23,7 +23,6 @@ use Rattle.types.specs.declared.Resolved as answers
 use Rattle.types.specs.declared.Resolved.TheVariants as resolved
 use Rattle.types.specs.declared.Lowered as done
 use Rattle.types.specs.declared.Lowered.TheVariants.{Done, Stopped}
-use Rattle.types.specs.Lowering.{done}
 use Rattle.types.specs.Step.{Step, Resolved, ◌>>=◌, ◌>>◌, at}
 use Rattle.types.specs.Resolve.{resolve_type}
 use Rattle.types.specs.Steps.{IsType}

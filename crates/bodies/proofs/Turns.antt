@@ -12,7 +12,6 @@ use Rattle.record.specs.declared.Record.{Record}
 use Rattle.record.specs.Layout.{record_at}
 use Rattle.record.specs.Write.{room_for, put}
 use Rattle.record.proofs.Writes.{put_out}
-use Rattle.book.specs.Shape.{type}
 use Rattle.book.specs.Blocks.{records}
 use Rattle.book.specs.Outline.{read, ◌!◌}
 use Rattle.types.specs.declared.LowerCtx.{LowerCtx}

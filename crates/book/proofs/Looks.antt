@@ -22,7 +22,7 @@ use Rattle.book.specs.Lists.{All, find, up_to}
 use Rattle.book.specs.Shape.{table, row_of, fits, well_shaped, child_in, children_by, children}
 use Rattle.book.specs.Blocks.{record_count, records}
 use Rattle.book.specs.Faults.{record_of, shape_fault, child_fault, before, may_follow, follow_fault, name_fault, depth_fault}
-use Rattle.book.specs.Refusal.{Cause, Refusal, shape, child, follow, name, depth, at, faulty, at_record, holds}
+use Rattle.book.specs.Refusal.{Refusal, shape, child, follow, name, depth, at, faulty, at_record, holds}
 use Rattle.book.specs.Answer.{cause_of, refusal_of}
 use Rattle.book.specs.Rows.{row_at, cell_in, group_of, Primitive}
 use Rattle.book.specs.Tables.{following, set_bit, Roots, Takes, Names, Depths, deepest_of, Counted, Placed, Kept, Ready, Looked}

@@ -1,12 +1,10 @@
 -- A reached constant of a book has the name of its record.
 -- Assumes nothing.
-use Rattle.constants.specs.Eval.{eval_const_expr}
-use Rattle.constants.specs.Eval.{store}
 use mathlib.Core.List.{List, [], ◌∷◌}
 use mathlib.Core.Path.{◌≡◌, refl}
 use Rattle.book.specs.Lists.{All}
 use Rattle.book.specs.Outline.{Book, ◌!◌}
-use Rattle.constants.specs.Eval.{Table, empty}
+use Rattle.constants.specs.Eval.{Table, empty, store, eval_const_expr}
 use Rattle.constants.specs.Order.{Constant, settle, outcome}
 use Rattle.constants.specs.OfBook.{constant_at, settled}
 use Rattle.constants.proofs.Values.{all_ordered}

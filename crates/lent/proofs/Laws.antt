@@ -10,7 +10,7 @@ use Rattle.types.specs.declared.LowerCtx.{LowerCtx}
 use Rattle.lower.specs.LowerBook.{Reply, Outcome}
 use Rattle.lent.specs.declared.Diagnostic.{Diagnostic}
 use Rattle.lent.specs.Diagnostics.{diagnostic_of, encoded, no_diagnostic}
-use Rattle.lent.specs.Lent.{bytes_for, front, front_of, LentOutcome, lower_lent}
+use Rattle.lent.specs.Lent.{bytes_for, front_of, LentOutcome, lower_lent}
 use Rattle.lent.specs.Laws.{SameAsBytes, RecordFormIsByteForm, RunsAgree, Leaves, StructsAreLeft}
 use Rattle.lent.proofs.Structs.{structs_length, told_bytes, cleared_bytes}
 use Rattle.lent.proofs.Ways.{Both, Way, left_alone, zeroed, lowered, zeros_room, way}

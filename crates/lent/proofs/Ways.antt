@@ -1,7 +1,7 @@
 -- How a book goes with a diagnostics slice for so many structs, and with any other that has the same used limit: the reply, the results, the counters, the
 -- structs at the front, and what is left in the other slice.
 -- Assumes nothing.
-use Prim.Native.Nat.{ℕ, ◌-◌, ◌*◌, ◌≤◌, min}
+use Prim.Native.Nat.{ℕ, ◌*◌, ◌≤◌, min}
 use mathlib.Core.List.{List, [], map}
 use mathlib.Core.Option.{some, none}
 use mathlib.Core.Path.{◌≡◌, sym, ap, ◌∙◌}
@@ -53,6 +53,9 @@ count_none n p room bytes h = rw (front_none n p room bytes h)
 
 pub count_zeros : (n p room : ℕ) (bytes : List ℕ) → 9 ≤ n → min 256 room ≡ length (front (refused n p) bytes room)
 count_zeros n p room bytes h = rw (front_zeros n p room bytes h) (sym (length-replicate (min 256 room) no_diagnostic))
+
+-- what `written` ensures, reply by reply
+pub ruleset counts = (count_told, count_none, count_zeros)
 
 -- the used limit of a diagnostics slice for so many structs
 pub zeros_room : (n : ℕ) → room_for 256 (bytes_for n) ≡ min 256 n

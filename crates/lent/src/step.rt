@@ -83,6 +83,7 @@ fn limit(room: usize) -> u16
 
 // How many structs are written at the front of a list: the diagnostics of a book that is accepted, as many zero ones as
 // may be told on 9 and 10, and none on 1 to 8.
+#[tactic(auto, using(crate::proofs::Ways::counts), unfolding(lower::specs::Promise::reply_of))]
 fn written(reply: Reply, room: usize) -> u16
     ensures { (bytes : List ℕ) → result ≡ length (front (reply_of reply) bytes room) }
 {

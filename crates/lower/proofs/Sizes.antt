@@ -1,17 +1,14 @@
 -- Empty tables that have room for a book: by name for its names, and by number for its records.
 -- Assumes nothing.
-use Prim.Native.Nat.{ℕ, ◌≤◌, ◌<◌}
-use mathlib.Core.Bool.{Bool, false}
+use Prim.Native.Nat.{ℕ, ◌≤◌}
+use mathlib.Core.Bool.{false}
 use mathlib.Core.List.{List}
-use mathlib.Core.Path.{◌≡◌, refl, sym, ap, ◌∙◌}
+use mathlib.Core.Path.{◌≡◌, sym, ap, ◌∙◌}
 use native.Mathlib.Omega.{arith}
 use lib.ListN.{length, replicate, length-replicate}
-use Rattle.book.specs.Blocks.{record_count, records}
-use Rattle.book.specs.Faults.{record_of}
+use Rattle.book.specs.Blocks.{record_count}
 use Rattle.constants.specs.Tables as constants
-use Rattle.constants.specs.Evaluated.{Long}
 use Rattle.types.specs.Below.{NamesBelow}
-use Rattle.types.specs.Registered.{Clear}
 use Rattle.types.specs.Resolved.{POISON}
 use Rattle.lower.specs.Ended.{Values, Tables}
 

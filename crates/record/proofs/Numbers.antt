@@ -6,7 +6,7 @@ use mathlib.Core.Path.{◌≡◌, refl, sym, ap, ◌∙◌}
 use native.Mathlib.Nat.{zero-add, add-zero, suc-add, pow-suc, one-le-pow, div-lt_iff_lt-mul}
 use native.Mathlib.Omega.{arith}
 use lib.Dec.{lit<, lit≤}
-use lib.ListN.{length, take, drop, get_or}
+use lib.ListN.{length, take, drop, get_or, get_or-eq_default}
 use lib.Seq.{get_or-drop, drop-drop}
 use Rattle.record.specs.Bytes.{AreBytes, little_endian, little_bytes}
 
@@ -23,6 +23,10 @@ pub one_there : (s : List ℕ) → little_endian 1 s ≡ get_or s 0 0
 unfolding little_endian
 one_there [] = refl
 one_there (b ∷ s) = omega arith
+
+-- and 0 where nothing stands there
+pub one_absent : (s : List ℕ) → length s ≤ 0 → little_endian 1 s ≡ 0
+one_absent s gone = one_there s ∙ get_or-eq_default s 0 gone
 
 -- the first m + n bytes are the first m and, 256^m times as heavy, the n behind them
 pub parts : (m n : ℕ) (s : List ℕ) → little_endian (m + n) s ≡ little_endian m s + 256 ^ m * little_endian n (drop m s)

@@ -10,6 +10,7 @@ pub fn from(s: &[u8], at: usize) -> &[u8]
     if at <= s.len() { &s[at..] } else { &s[..0] }
 }
 
+#[tactic(auto, using(crate::proofs::Numbers::one_there, crate::proofs::Numbers::one_absent))]
 pub fn one(s: &[u8]) -> u8
     ensures { result ≡ little_endian 1 s.now }
 {

@@ -1,9 +1,8 @@
 -- `lower_book`, and all that it takes to compute it.
 -- Assumes nothing.
-use Rattle.std.specs.Prelude.{ℕ, ◌+ℤ◌, ◌-ℤ◌, ◌*ℤ◌, nat_abs, neg_ℤ}
+use Rattle.std.specs.Prelude.{ℕ}
 use mathlib.Core.List.{List, flat_map}
 use Rattle.std.proofs.Math.Option.{or_else}
-use Rattle.std.specs.Int.Signed.{le_z, quot_z}
 use Rattle.record.specs.Bytes.{little_endian, little_bytes}
 use Rattle.record.specs.Layout.{decode_record, encode_record, record_at}
 use Rattle.record.specs.Check.{words, ones_sum, checksum, block_words, block_check, check_holds}

@@ -1,6 +1,6 @@
 -- What numbering the declarations of a book leaves in the arrays.
 -- Assumes nothing.
-use Rattle.std.specs.Prelude.{ℕ, ◌-◌, ◌<◌, Bool, false, List, map, ◌≡◌, ltb, length, drop, get_or, replicate}
+use Rattle.std.specs.Prelude.{ℕ, ◌<◌, Bool, false, List, map, ◌≡◌, ltb, length, drop, get_or, replicate}
 use Rattle.std.proofs.Math.Option.{Option, some, none}
 use Rattle.book.specs.Lists.{numbered_from}
 use Rattle.book.specs.Blocks.{record_count, records}

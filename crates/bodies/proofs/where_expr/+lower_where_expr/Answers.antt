@@ -2,7 +2,6 @@
 -- The measure of the recursion is the record number, since children are earlier records.
 -- Assumes nothing.
 use native.Mathlib.Omega.{arith}
-use borrow.Fn.PlainCycle.{is}
 use Rattle.bodies.proofs.Wheres.{Node, left_here, right_here, operand_here, left-refused, one_here, right_refused, two_here}
 use Rattle.bodies.proofs.where_expr.+lower_where_expr.Goals as goal
 

@@ -3,7 +3,6 @@
 -- Assumes nothing.
 use mathlib.Core.Option.{or_else}
 use native.Mathlib.Omega.{arith}
-use borrow.Fn.PlainCycle.{is}
 use Rattle.record.specs.declared.Record.{Record}
 use Rattle.book.specs.Lists.{find}
 use Rattle.book.proofs.First.{find-append}

@@ -2,7 +2,6 @@
 -- The measure of the recursion is the record number, since children are earlier records.
 -- Assumes nothing.
 use native.Mathlib.Omega.{arith}
-use borrow.Fn.PlainCycle.{is}
 use Rattle.record.specs.declared.Record.{Record}
 use Rattle.constants.proofs.Nodes.{Sides, reference_here, operation_here, sides_here}
 use Rattle.constants.proofs.Hinting.{listed_none, listed_both}

@@ -3,7 +3,6 @@
 -- Assumes nothing.
 use mathlib.Core.Path.{◌∙◌}
 use native.Mathlib.Omega.{arith}
-use borrow.Fn.PlainCycle.{is}
 use Rattle.record.specs.declared.Record.{Record}
 use Rattle.book.specs.Lists.{keep}
 use Rattle.constants.specs.Expr.{refs}

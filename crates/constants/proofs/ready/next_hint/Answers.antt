@@ -1,6 +1,5 @@
 -- `constants::ready::next_hint` meets its contract. The loop's invariant: from k up to j none is undone.
 -- Assumes nothing.
-use mathlib.Core.Bool.{false}
 use mathlib.Core.Path.{sym, ◌∙◌}
 use native.Mathlib.Omega.{arith}
 use borrow.Author.Count.{below_more}

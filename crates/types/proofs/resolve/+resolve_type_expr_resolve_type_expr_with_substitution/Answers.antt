@@ -18,7 +18,6 @@ use Rattle.types.proofs.Heads.{generics_fit}
 use Rattle.types.proofs.Arms.{turn_of, turn_inside, arm_one, arm_two, arm_two_refused, arm_leaf, arm_head, arm_no_alias, arm_no_number}
 use Rattle.types.proofs.Arms.{too_deep_lem, too_deep_inside, stands-behind, numbered_here, stands_so, not_both, head-alias}
 use Rattle.types.proofs.Walking.{at-inside, at_outside, to_argument, plain_there}
-use borrow.Fn.PlainCycle.{is, falls, and}
 use Rattle.types.proofs.resolve.+resolve_type_expr_resolve_type_expr_with_substitution.Goals as goal
 
 pub resolve_type_expr-returns-then-left-eq0 : goal.resolve_type_expr-returns-then-left-eq0
