@@ -144,10 +144,10 @@ module _ {bytes : List ℕ} {scope : Scope} {lent : Lent} {aliases : List ℕ} w
           Goes bytes scope lent place aliases (with_results h l) (Stopped c) (run (limits_of lent) (emit_last r k) s)
       unfolding run and_then stop_of
       last_refused c q =
-          let (out, Full-is) = stop-emitted _ ctx (sym did.0 ∙ q) in
+          let (out, full_is) = stop-emitted _ ctx (sym did.0 ∙ q) in
           let same = put_out 2048 h.results ctx.results r (ltb-false _ _ out) in
           let g : ℕ → Lowering (Unit × Names) = λ n. done (tt, k) in
-          rw (Full-is, write_out (limits_of lent) s r g (sym (result_test f) ∙ out))
+          rw (full_is, write_out (limits_of lent) s r g (sym (result_test f) ∙ out))
           (halts refl f.place_is (left_same f (did.1 ∙ sym same) refl))
 
 -- what may be missing

@@ -146,12 +146,12 @@ extension_keeps w t cs ds distinct ones all before n z s =
     (x.0, x.1 ∙ s.1, x.2)
 
 pub reordering : Reordering
-reordering w t cs ds distinct ones all None-more n o = (go cs ds distinct ones all None-more, go ds cs ones distinct None-more all)
+reordering w t cs ds distinct ones all none_more n o = (go cs ds distinct ones all none_more, go ds cs ones distinct none_more all)
   where
     go : (cs ds : List Constant) → Distinct cs → Distinct ds → DeclaresAll ds cs → DeclaresAll cs ds → Settles w t cs n o → Settles w t ds n o
-    go cs ds distinct ones all None-more s =
+    go cs ds distinct ones all none_more s =
         let x =
-        settles_too w t cs ds distinct ones (λ c. Unit) (λ c d p m h. tt) (λ c p m. all c m) (λ c p n h e. has_not cs ds None-more n e)
+        settles_too w t cs ds distinct ones (λ c. Unit) (λ c d p m h. tt) (λ c p m. all c m) (λ c p n h e. has_not cs ds none_more n e)
         s.0 o s.2 tt in
         (x.0, x.1 ∙ s.1, x.2)
 

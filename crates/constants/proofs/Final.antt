@@ -102,25 +102,25 @@ any_order_is_final w t cs distinct taken r = record {
 
 -- two lists that declare the same, whatever their order, have one final table
 pub same_table : ReorderingLeavesTable
-same_table w t cs ds distinct ones all None-more one other f g n = go (declares (order w cs) n) refl
+same_table w t cs ds distinct ones all none_more one other f g n = go (declares (order w cs) n) refl
   where
     alike :
         (cs ds : List Constant) → Distinct ds → DeclaresAll ds cs → DeclaresAll cs ds →
         (F G : Table) → IsFinal w t cs F → IsFinal w t ds G → {c : Constant} → Reached w cs c →
         (d : Constant) × Reached w ds d × (d.name ≡ c.name) × (F c.name ≡ G c.name)
-    alike cs ds ones all None-more F G f g r =
+    alike cs ds ones all none_more F G f g r =
         let y =
-        carry w t cs ds ones F G f g (λ c. Unit) (λ c d p m h. tt) (λ c p m. all c m) (λ c p m h e. has_not cs ds None-more m e) r tt in
+        carry w t cs ds ones F G f g (λ c. Unit) (λ c d p m h. tt) (λ c p m. all c m) (λ c p m h e. has_not cs ds none_more m e) r tt in
         (y.to, y.is_reached, y.same_name, y.has_value)
 
     go : (b : Bool) → declares (order w cs) n ≡ b → one n ≡ other n
     go true e =
         let x = declares_mem (order w cs) n e in
-        let y = alike cs ds ones all None-more one other f g ((order_takes_reached w cs distinct x.0).0 x.1) in
+        let y = alike cs ds ones all none_more one other f g ((order_takes_reached w cs distinct x.0).0 x.1) in
         sym (ap one x.2) ∙ y.3 ∙ ap other x.2
     go false e =
         f.other n out
-        ∙ sym (g.other n (λ d r q. let y = alike ds cs distinct None-more all other one g f r in out y.0 y.1 (y.2 ∙ q)))
+        ∙ sym (g.other n (λ d r q. let y = alike ds cs distinct none_more all other one g f r in out y.0 y.1 (y.2 ∙ q)))
       where
         out : (c : Constant) → Reached w cs c → c.name ≡ n → ⊥
         out c r q = true≢false (sym (mem_declares n ((order_takes_reached w cs distinct c).1 r) q) ∙ e)

@@ -140,9 +140,9 @@ module _
         Goes bytes scope lent place aliases (with_results h l) (lowered.Stopped c) (run (limits_of lent) (finish_alias r t k) s)
     unfolding stop_of and_then
     alias_refused c q =
-        let (out, Full-is) = stop-emitted _ ctx (sym did.0 ∙ q) in
+        let (out, full_is) = stop-emitted _ ctx (sym did.0 ∙ q) in
         let same = put_out 2048 h.results ctx.results one (ltb-false _ _ out) in
-        rw (Full-is, write_out (limits_of lent) s one last (sym (result_test f) ∙ out))
+        rw (full_is, write_out (limits_of lent) s one last (sym (result_test f) ∙ out))
         (halts refl f.place_is (left_same f (did.1 ∙ sym same) refl))
 
 -- the alias at record n is lowered: its type is resolved at that place, and then the alias is finished

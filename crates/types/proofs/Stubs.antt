@@ -214,8 +214,8 @@ module _
   refused : (k' : Names) (c : stops.Stop) → x ≡ Stopped c → Ends bytes scope lent place aliases (with_results h l) x (run (limits_of lent) (whole (named k.next) k') s)
   unfolding whole emit_type and_then
   refused k' c q =
-      let (none_left, Full-is) = stop-emitted _ ctx (sym did.0 ∙ q) in
-      rw (q, Full-is, ← f.next_is) (no_room_ends f (named_record ctx.next) (λ m. done (record { root = m; type = named ctx.next }, k')) none_left did.1 refl)
+      let (none_left, full_is) = stop-emitted _ ctx (sym did.0 ∙ q) in
+      rw (q, full_is, ← f.next_is) (no_room_ends f (named_record ctx.next) (λ m. done (record { root = m; type = named ctx.next }, k')) none_left did.1 refl)
 
   pub stub_refused : (name : ℕ) (c : stops.Stop) → x ≡ Stopped c → Ends bytes scope lent place aliases (with_results h l) x (run (limits_of lent) (stub_step name k) s)
   stub_refused name c q = refused (with_stub name k) c q

@@ -19,6 +19,6 @@ pub returns-in-Nothing : goal.returns-in-Nothing
 unfolding refusal_of wildcards
 returns-in-Nothing c =
     let book = c.args.book.now in
-    let None-found = sym (ap refusal_of c.in-Nothing.is) ∙ c.first_fault.ensures in
+    let none_found = sym (ap refusal_of c.in-Nothing.is) ∙ c.first_fault.ensures in
     let byte3 = c.one.ensures ∙ ap (little_endian 1) c.from.ensures ∙ byte_there book 3 in
-    answer_accepted book None-found c.requires.all (ap (λ k. eqb k 1) byte3)
+    answer_accepted book none_found c.requires.all (ap (λ k. eqb k 1) byte3)

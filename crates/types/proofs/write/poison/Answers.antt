@@ -16,6 +16,6 @@ returns-in-Done c bytes scope aliases numbers pairs lent place k s f =
 pub returns-in-Stopped : goal.returns-in-Stopped
 returns-in-Stopped c bytes scope aliases numbers pairs lent place k s f =
     let a = c.args in
-    let (out, Full-is) = stop-told _ a.ctx (sym c.tell.ensures.value ∙ c.in-Stopped.is) in
-    rw Full-is
+    let (out, full_is) = stop-told _ a.ctx (sym c.tell.ensures.value ∙ c.in-Stopped.is) in
+    rw full_is
     (not_poisoned f a.m a.a a.b a.class a.span c.message.ensures out c.tell.ensures.diagnostics_after)
