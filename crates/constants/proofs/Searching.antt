@@ -61,7 +61,7 @@ module _
           from = s.from;
           within = omega arith;
           none_before = (s.passed done u w).none_ready;
-          holds = λ less. sym (tells done u w).is-ready ∙ e;
+          holds = λ less. sym (tells done u w).is_ready ∙ e;
         };
         waits_are = (tells done u w).waits_are;
       }
@@ -84,5 +84,5 @@ module _
           go :
               (done : List ℕ) → Undone cs done undone → Waits cs done waits₀ → (j : ℕ) → low ≤ j → j < i + 1 → Dec (j ≡ i) →
               ready each cs done (constant_in cs j) ≡ false
-          go done u w j from less (yes here) = rw here (sym (tells done u w).is-ready ∙ e)
+          go done u w j from less (yes here) = rw here (sym (tells done u w).is_ready ∙ e)
           go done u w j from less (no before) = (s.passed done u w).none_ready j from (omega arith)

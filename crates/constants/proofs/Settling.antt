@@ -44,7 +44,7 @@ pub record Settling
   pub stored_same : length stored ≡ length stored₀
   pub values_same : length values ≡ length values₀
   pub low_within : low ≤ m
-  pub low-done : (j : ℕ) → j < low → has (constant_in (declared book) j).name done ≡ true
+  pub low_done : (j : ℕ) → j < low → has (constant_in (declared book) j).name done ≡ true
 
 -- at first none is
 pub settling_start :
@@ -66,7 +66,7 @@ settling_start {book} {m} {known = known} {worth = worth} all u w = record {
   stored_same = refl;
   values_same = refl;
   low_within = omega arith;
-  low-done = λ j less. absurd (omega arith);
+  low_done = λ j less. absurd (omega arith);
 }
 
 -- room for some constants is room for fewer
@@ -132,7 +132,7 @@ module _
 
     -- or none is ready
     pub settled_stop : i ≡ m → AllEvaluated
-    settled_stop none_ready = ends (order_ends here s.low-done (m - k) (omega arith))
+    settled_stop none_ready = ends (order_ends here s.low_done (m - k) (omega arith))
 
     -- and settled
     module _
@@ -178,7 +178,7 @@ module _
         left_then =
             let turns : m - k ≡ suc (m - (k + 1)) = omega arith in
             let rest = order_from (m - (k + 1)) each cs (c.name ∷ s.done) in
-            let taken : order_from (m - k) each cs s.done ≡ c ∷ rest = rw turns (order_next here s.low-done (m - (k + 1)) there) in
+            let taken : order_from (m - k) each cs s.done ≡ c ∷ rest = rw turns (order_next here s.low_done (m - (k + 1)) there) in
             s.left
             ∙ ap (λ l. s.settled ++ settle (table_of known worth) l) taken
             ∙ ap (λ T. s.settled ++ (x ∷ settle T rest)) table_is
@@ -206,7 +206,7 @@ module _
             {low' : ℕ} → low' ≤ m → ((j : ℕ) → j < low' → has (constant_in cs j).name (c.name ∷ s.done) ≡ true) →
             Settling book m (k + 1) low' undone₀ undone' waits'' known₀ known' worth₀ worth' order₀ order' stored₀ stored' values₀ values'
         unfolding read
-        turned within low-done = record {
+        turned within low_done = record {
           settled = s.settled ++ (x ∷ []);
           done = c.name ∷ s.done;
           undone_is = rw is.undone_is (undone_then s.undone_is c.name undone_by_name);
@@ -223,7 +223,7 @@ module _
           stored_same = ap length is.stored_is ∙ length-set stored k (has_value value) ∙ s.stored_same;
           values_same = ap length is.values_are ∙ length-set values k (value_or_0 value) ∙ s.values_same;
           low_within = within;
-          low-done = low-done;
+          low_done = low_done;
         }
 
         -- `low` goes past the constant, or stays
@@ -234,6 +234,6 @@ module _
           where
             go : (j : ℕ) → j < i + 1 → Dec (j ≡ i) → has (constant_in cs j).name (c.name ∷ s.done) ≡ true
             go j less (yes same) = rw same (has_own c.name s.done)
-            go j less (no other) = has_later _ c.name s.done (s.low-done j (omega arith))
+            go j less (no other) = has_later _ c.name s.done (s.low_done j (omega arith))
         settling_then (inr same) =
-            turned (omega (arith, s.low_within)) (λ j less. has_later _ c.name s.done (s.low-done j (omega arith)))
+            turned (omega (arith, s.low_within)) (λ j less. has_later _ c.name s.done (s.low_done j (omega arith)))

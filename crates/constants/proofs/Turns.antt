@@ -75,7 +75,7 @@ module _ {cs : List Constant} {done : List ℕ} {undone : List Bool} (u : Undone
 
   pub told_waiting :
       {waits : List ℕ} (i : ℕ) → i < length cs → Waits cs done waits → to_come undone (get_or waits i 0) ≡ true → Told cs done i false waits
-  told_waiting i inside w e = record { is-ready = sym (waits_on (w.each_waits i inside) e); waits_are = w }
+  told_waiting i inside w e = record { is_ready = sym (waits_on (w.each_waits i inside) e); waits_are = w }
 
   -- behind that it is not done, and is admitted
   waits_not : {c : Constant} {w : ℕ} → Waiting cs done c w → to_come undone w ≡ false → (has c.name done ≡ false) × (admits each cs c ≡ true)
@@ -111,7 +111,7 @@ module _
       let marked = sym (u.names n) ∙ looked none e n m in
       not-false _ (ap (λ b. b && not (has n done)) (sym d) ∙ marked) in
       record {
-        is-ready = sym (ready_if each cs done c (record { fresh = fresh; admitted = admitted; behind = behind }));
+        is_ready = sym (ready_if each cs done c (record { fresh = fresh; admitted = admitted; behind = behind }));
         waits_are = w;
       }
 
@@ -120,7 +120,7 @@ module _
       let (fresh, admitted) = waits_not u (w.each_waits i s.inside) free in
       let named : Names c.expr n = rw s.expr_is names in
       record {
-        is-ready = sym (names-undone u c n named passes);
+        is_ready = sym (names-undone u c n named passes);
         waits_are =
             waits-set waits i w.long s.inside (for (omega (arith, marked_inside undone n passes, u.long)) fresh admitted named)
             (λ j l _. w.each_waits j l);

@@ -153,7 +153,7 @@ pub record Standing (cs : List Constant) (undone : List Bool) (waits : List ℕ)
 
 -- whether constant i is ready is told, and what it waits for if it is not
 pub record Told (cs : List Constant) (done : List ℕ) (i : ℕ) (is : Bool) (waits : List ℕ) : Type 0 where
-  pub is-ready : is ≡ ready each cs done (constant_in cs i)
+  pub is_ready : is ≡ ready each cs done (constant_in cs i)
   pub waits_are : Waits cs done waits
 
 -- i is the first place of a list, from `low` on, at which a test holds; the length where there is none

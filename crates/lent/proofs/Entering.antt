@@ -30,9 +30,9 @@ lent_of ctx book results diagnostics x results' diagnostics' s e =
     let zeros = replicate (256 - x.count) no_diagnostic in
     let d : diagnostics' ≡ front ++ drop (length front) diagnostics =
     e
-    ∙ (λ i. take (s.count-is i) (s.told_are i) ++ drop (s.count-is i) diagnostics)
+    ∙ (λ i. take (s.count_is i) (s.told_are i) ++ drop (s.count_is i) diagnostics)
     ∙ ap (λ l. l ++ drop (length front) diagnostics) (take_at front zeros (length front) refl) in
-    λ i. record { reply = s.reply-is i; ctx = s.ctx-is i; results = s.results_are i; diagnostics = d i }
+    λ i. record { reply = s.reply_is i; ctx = s.ctx_is i; results = s.results_are i; diagnostics = d i }
 
 -- what the field says of the structs' tuples, the array says of the structs
 each-struct :

@@ -32,7 +32,7 @@ module _ (ctx : LowerCtx) (book results : List ℕ) (lent : List Diagnostic) whe
   unfolding lower_lent
   same_by b e =
       record {
-        reply-is = b.reply-is ∙ sym (ap (λ (x : Outcome). x.reply) b.with_s);
+        reply_is = b.reply_is ∙ sym (ap (λ (x : Outcome). x.reply) b.with_s);
         results_are = b.results_are ∙ sym (ap (λ (x : Outcome). x.results) b.with_s);
         diagnostics_are = ap encoded (structs_by b.structs_are) ∙ e ∙ sym (ap (λ (x : Outcome). x.diagnostics) b.with_s);
       }
@@ -58,7 +58,7 @@ module _ (ctx : LowerCtx) (book results : List ℕ) (lent : List Diagnostic) whe
   module _ {reply : Reply} {results' : List ℕ} {counters : LowerCtx → LowerCtx} {ds : List Diagnostic} {s' : List ℕ} (b : Ways reply results' counters ds s') where
     reply_left : here.reply ≡ reply
     unfolding lower_lent
-    reply_left = b.reply-is
+    reply_left = b.reply_is
 
     results_left : here.results ≡ results'
     unfolding lower_lent
@@ -113,7 +113,7 @@ unfolding lower_lent
 runs_agree x y bytes is is' =
     let s = record_form_is_byte_form x.ctx x.book x.results x.lent bytes in
     record {
-      same_reply = ap (λ (o : LentOutcome). o.reply) is ∙ s.reply-is ∙ sym (ap (λ (o : Outcome). o.reply) is');
+      same_reply = ap (λ (o : LentOutcome). o.reply) is ∙ s.reply_is ∙ sym (ap (λ (o : Outcome). o.reply) is');
       same_results = ap (λ (o : LentOutcome). o.results) is ∙ s.results_are ∙ sym (ap (λ (o : Outcome). o.results) is');
       same_diagnostics = ap (λ (o : LentOutcome). encoded o.diagnostics) is ∙ s.diagnostics_are ∙ sym (ap (λ (o : Outcome). o.diagnostics) is');
     }

@@ -44,7 +44,7 @@ module _
   record Reads : Type 0 where
     reply_same : reply_of c.reply ≡ (as_bytes book results room).reply
     results_same : results' ≡ (as_bytes book results room).results
-    count-is : n ≡ length (front_of book results room)
+    count_is : n ≡ length (front_of book results room)
     read_are : map diagnostic_of (first_records n s') ≡ front_of book results room
     few : n ≤ min 256 room
 
@@ -54,14 +54,14 @@ module _
       Reads
   reads_by {ds} b few read =
       let gives = x.lowers ∙ b.with_s in
-      let same : reply_of c.reply ≡ (as_bytes book results room).reply = ap (λ (y : Outcome). y.reply) gives ∙ sym b.reply-is in
+      let same : reply_of c.reply ≡ (as_bytes book results room).reply = ap (λ (y : Outcome). y.reply) gives ∙ sym b.reply_is in
       let is : n ≡ length (front_of book results room) =
       x.count _ ∙ ap (λ (r : Reply). length (front r (as_bytes book results room).diagnostics room)) same in
       let long : n ≡ length ds = is ∙ ap (λ (l : List Diagnostic). length l) b.structs_are in
       record {
         reply_same = same;
         results_same = ap (λ (y : Outcome). y.results) gives ∙ sym b.results_are;
-        count-is = is;
+        count_is = is;
         read_are =
             ap₂ (λ (m : ℕ) (l : List ℕ). map diagnostic_of (first_records m l)) long (ap (λ (y : Outcome). y.diagnostics) gives)
             ∙ read
@@ -93,10 +93,10 @@ module _
       Stepped ctx book results room (record { ctx = c.ctx; reply = c.reply; count = n; told = told }) results'
   stepped told e =
       record {
-        reply-is = reads.reply_same;
-        ctx-is = x.counters ∙ counters_with ctx book results s (bytes_for room) (limited ∙ sym (zeros_room room));
+        reply_is = reads.reply_same;
+        ctx_is = x.counters ∙ counters_with ctx book results s (bytes_for room) (limited ∙ sym (zeros_room room));
         results_are = reads.results_same;
-        count-is = reads.count-is;
+        count_is = reads.count_is;
         told_are = e ∙ ap (λ (l : List Diagnostic). l ++ replicate (256 - n) no_diagnostic) reads.read_are;
         few = step_few;
         room_for = omega (arith, reads.few);

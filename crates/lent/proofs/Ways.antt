@@ -65,7 +65,7 @@ zeros_room n = let long : length (bytes_for n) ≡ 24 * n = length-replicate (24
 module _ (book results : List ℕ) (room : ℕ) (s : List ℕ) where
   -- what both give: the reply, the results, and the counters by those at entry; the structs at the front, and what is left in s
   pub record Both (reply : Reply) (results' : List ℕ) (counters : LowerCtx → LowerCtx) (structs : List Diagnostic) (s' : List ℕ) : Type 0 where
-    pub reply-is : (as_bytes book results room).reply ≡ reply
+    pub reply_is : (as_bytes book results room).reply ≡ reply
     pub results_are : (as_bytes book results room).results ≡ results'
     pub counters_are : (ctx : LowerCtx) → counters_after ctx book results (bytes_for room) ≡ counters ctx
     pub structs_are : front_of book results room ≡ structs
@@ -106,7 +106,7 @@ module _ (book results : List ℕ) (room : ℕ) (s : List ℕ) where
         Both x.reply x.results counters structs s'
     both_by counters structs e c f t =
         record {
-          reply-is = ap (λ (x : Outcome). x.reply) e;
+          reply_is = ap (λ (x : Outcome). x.reply) e;
           results_are = ap (λ (x : Outcome). x.results) e;
           counters_are = c;
           structs_are = ap (λ (x : Outcome). front x.reply x.diagnostics room) e ∙ f;

@@ -18,7 +18,7 @@ use Rattle.lent.specs.Lent.{LentOutcome, lower_lent, LoweredLent}
 -- The record form is the byte form: with the bytes of the structs lent, `lower_book` gives the same reply and results, and leaves the bytes of the
 -- structs that are left
 pub record SameAsBytes (book results : List ℕ) (lent : List Diagnostic) (x : LentOutcome) : Type 0 where
-  pub reply-is : x.reply ≡ (lower_book book results (encoded lent)).reply
+  pub reply_is : x.reply ≡ (lower_book book results (encoded lent)).reply
   pub results_are : x.results ≡ (lower_book book results (encoded lent)).results
   pub diagnostics_are : encoded x.diagnostics ≡ (lower_book book results (encoded lent)).diagnostics
 

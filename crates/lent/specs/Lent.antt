@@ -57,10 +57,10 @@ LoweredLent ctx book results diagnostics reply ctx' results' diagnostics' =
 -- the promise of the value form, for a list of so many structs: what `lower_lent` gives for one, the structs at its front in an array of 256, with zero
 -- ones behind them. They are no more than the array and the list hold
 pub record Stepped (ctx : LowerCtx) (book results : List ℕ) (room : ℕ) (x : Step) (results' : List ℕ) : Type 0 where
-  pub reply-is : reply_of x.reply ≡ (as_bytes book results room).reply
-  pub ctx-is : x.ctx ≡ counters_after ctx book results (bytes_for room)
+  pub reply_is : reply_of x.reply ≡ (as_bytes book results room).reply
+  pub ctx_is : x.ctx ≡ counters_after ctx book results (bytes_for room)
   pub results_are : results' ≡ (as_bytes book results room).results
-  pub count-is : x.count ≡ length (front_of book results room)
+  pub count_is : x.count ≡ length (front_of book results room)
   pub told_are : x.told ≡ front_of book results room ++ replicate (256 - x.count) no_diagnostic
   pub few : x.count ≤ 256
   pub room_for : x.count ≤ room

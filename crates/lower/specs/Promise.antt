@@ -38,6 +38,6 @@ reply_words (refused cause place) = cause ∷ place ∷ 0 ∷ 0 ∷ []
 
 -- the promise of `signal_book_lower`: the same with the reply in four words
 pub record Exported (book results diagnostics reply results' diagnostics' : List ℕ) : Type 0 where
-  pub reply-is : reply ≡ reply_words (lower_book book results diagnostics).reply
+  pub reply_is : reply ≡ reply_words (lower_book book results diagnostics).reply
   pub results_are : results' ≡ (lower_book book results diagnostics).results
   pub diagnostics_are : diagnostics' ≡ (lower_book book results diagnostics).diagnostics

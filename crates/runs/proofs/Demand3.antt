@@ -384,7 +384,7 @@ kept_instance =
       stored = first_stored;
       kept = said.0;
       stands = said.1;
-      stands-elsewhere = said.2;
+      stands_elsewhere = said.2;
     }
 
 same_instance : SameInstance

@@ -161,7 +161,7 @@ pub record KeptInstance : Type 0 where
   -- so demand 3 says
   pub kept : StoredFor changed N2 (pos 42)
   pub stands : Stands (lowered first) N2 (pos 42)
-  pub stands-elsewhere : Stands (elsewhere changed) N2 (pos 42)
+  pub stands_elsewhere : Stands (elsewhere changed) N2 (pos 42)
 
 -- "Where none is added, the two store exactly the same names with the same values": K1 and K1 reordered
 pub record SameInstance : Type 0 where

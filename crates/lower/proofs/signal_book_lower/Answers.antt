@@ -9,7 +9,7 @@ pub returns : goal.returns
 returns c =
     let lowered = c.lower_book.ensures in
     record {
-      reply-is = c.reply_words.ensures ∙ ap (λ (x : Outcome). reply_words x.reply) lowered;
+      reply_is = c.reply_words.ensures ∙ ap (λ (x : Outcome). reply_words x.reply) lowered;
       results_are = ap (λ (x : Outcome). x.results) lowered;
       diagnostics_are = ap (λ (x : Outcome). x.diagnostics) lowered;
     }

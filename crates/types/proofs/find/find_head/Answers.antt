@@ -19,11 +19,11 @@ returns-then-n-scope c bytes ambiguous ctx pairs diagnostics r lent place k s f 
 abbrev number : After-struct_known-3-1 → ℕ
 number c = c.in-Is.id.0
 
-abbrev scope-at : After-struct_known-3-1 → Scope
-scope-at c = c.args.scope
+abbrev scope_at : After-struct_known-3-1 → Scope
+scope_at c = c.args.scope
 
-inside : (c : After-struct_known-3-1) → ((scope-at c).types ≤ number c) × (number c < (scope-at c).named)
-inside c = between (number c) (scope-at c).types (scope-at c).named c.if-n-scope.false
+inside : (c : After-struct_known-3-1) → ((scope_at c).types ≤ number c) × (number c < (scope_at c).named)
+inside c = between (number c) (scope_at c).types (scope_at c).named c.if-n-scope.false
 
 pub overflow_sub-at : goal.overflow_sub-at
 overflow_sub-at c = omega (arith, inside (goal.at.overflow_sub-at c).After-struct_known-3-1)
