@@ -4,7 +4,7 @@
     the toolchain's port.py                 # once, everything committed before and after (docs/PORT.md)
     tools/respell.py [--check]              # then this, from anywhere in the checkout
 
-What it does, in this order (a second run changes nothing):
+It is done: docs/PORT.md says what it gave, and where that page stands it writes nothing. What it does, in this order:
  1. src/: `#[derive(Drop)]`, which port.py writes on each struct and enum, becomes `#[derive(Clone, Copy)]` where all fields are plain;
     `#![tactic(auto)]` below the heading of lib.rt or main.rt; crates.txt loses libc, os and io (their lines are printed).
  2. Names that specs/ and proofs/ declare (definitions, lemmas, fields, constructors, local helpers) go to snake case: camelCase is split at
@@ -15,7 +15,7 @@ What it does, in this order (a second run changes nothing):
     everywhere but in Rust's and antt's strings, names with a dash only in code and between backticks.
 It prints each pair of names that fell together, each must-fail edit and each line of tools/wrong-definitions.txt whose text no longer stands, each
 parameter that hides a definition, and how many names it turned.
---check writes nothing. --map FILE also writes the table old, tab, new.
+--check writes nothing to the checkout. --map FILE also writes the table old, tab, new.
 What it leaves: facts in lower case (none here), names that should say more, edits that it names, `Refused:` lines of edits (rt reads none).
 """
 import collections
@@ -271,9 +271,14 @@ def with_tactic(text):
 
 def main(argv):
     check = "--check" in argv
+    unknown = [it for i, it in enumerate(argv) if it not in ("--check", "--map") and argv[i - 1 : i] != ["--map"]]
+    if unknown or argv[-1:] == ["--map"]:
+        raise SystemExit("use: tools/respell.py [--check] [--map FILE]")
     root = subprocess.run(["git", "rev-parse", "--show-toplevel"], capture_output=True, text=True, check=True).stdout.strip()
     if not os.path.isdir(f"{root}/crates"):
         raise SystemExit("respell: run it in a checkout that has crates/")
+    if os.path.exists(f"{root}/docs/PORT.md") and not check:
+        raise SystemExit("respell: this checkout is respelled (docs/PORT.md)")
     changed = []
 
     def write(path, old, new):
