@@ -59,7 +59,7 @@ fn class_number(class: ErrorClass) -> u64 {
 
 // Struct i, as lent.
 fn lent_struct(i: usize) -> Diagnostic
-    requires { i < 258 }
+    requires { i < STRUCTS }
 {
     Diagnostic {
         kind: (i % 256) as u8,
@@ -129,7 +129,7 @@ fn print_answer(rt: &HostRuntime, reply: Reply, ctx: LowerCtx, left: u64) -> io:
 
 // Lowers a book into what is lent, and prints the line of the answer.
 fn lower_and_print(rt: &HostRuntime, loan: Loan, book: &[u8]) -> io::Result<()>
-    requires { (loan.results ≤ 49200) × (loan.structs ≤ 258) × (loan.shown ≤ loan.results) }
+    requires { (loan.results ≤ RESULT_BYTES) × (loan.structs ≤ STRUCTS) × (loan.shown ≤ loan.results) }
 {
     let mut results = [0u8; RESULT_BYTES];
     let mut structs = [lent_struct(0); STRUCTS];
