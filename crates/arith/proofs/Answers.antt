@@ -1,42 +1,78 @@
--- The checked product and quotient, from the signs and sizes of the two operands.
+-- What std's checked operations answer, told by the definitions.
 -- Assumes nothing.
-use Prim.Native.Nat.{ℕ, ◌*◌, ◌/◌}
-use mathlib.Core.Bool.{Bool, true, false}
+use Prim.Native.Nat.{ℕ, zero, suc, ◌^◌, ◌≤◌, ◌<◌}
+use mathlib.Core.Bool.{true, false}
 use mathlib.Core.Option.{some, none}
-use mathlib.Core.Path.{◌≡◌, refl, sym, ap, ap₂, ◌∙◌}
-use native.Mathlib.Nat.{mul-zero}
-use lib.IntN.{ℤ}
-use borrow.Author.Tests.{eq-eqb, ne_eqb}
-use Rattle.arith.specs.Checked.{fitting, checked_mul, checked_div}
-use Rattle.arith.specs.Sign.{signed_by, value}
-use Rattle.arith.specs.Word.{signed}
-use Rattle.arith.specs.declared.Signed.{Signed}
-use Rattle.arith.proofs.Signs.{differ, size_signed, mul_signed, quot_signed}
+use mathlib.Core.Path.{◌≡◌, refl, sym, ap, ◌∙◌}
+use native.Mathlib.Decide.{dec_le}
+use native.Mathlib.Omega.{arith}
+use lib.IntN.{ℤ, pos, negsuc, ◌+ℤ◌, ◌-ℤ◌, ◌*ℤ◌, nat_abs}
+use lib.Signed.{mag, quot_z}
+use mir.Syntax.{w64}
+use mir.Val.{SFits, to_z, of_z}
+use borrow.Author.Tests.{ne_eqb}
+use Rattle.std.specs.Prelude.{eqb, Option, Some, None}
+use Rattle.std.specs.Int.{CanDivide}
+use Rattle.std.specs.Option.{SomeIff}
+use Rattle.std.proofs.lemmas.Int.{to_z-of_z}
+use Rattle.arith.specs.Checked.{answer, fitting, checked_add, checked_sub, checked_mul, checked_div}
+use Rattle.arith.specs.Word.{signed, as_i64, word}
+use Rattle.arith.proofs.Words.{fits, over, cast_signed, signed_as_in_rattle}
 
-pub zero_fits : (s : Bool) → some (signed 0) ≡ fitting (signed_by s 0)
-unfolding signed fitting
-zero_fits true = refl
-zero_fits false = refl
+not_fitting : (z : ℤ) → (SFits w64 z → ⊥) → fitting z ≡ none
+not_fitting z h = go (dec_le (2 ^ 63) (mag z))
+  where
+    go : Dec (2 ^ 63 ≤ mag z) → fitting z ≡ none
+    go (yes l) = over z l
+    go (no l) = absurd (h (record { sfits = omega arith }))
 
-module _ (p q : Signed) {x y : ℤ} (is_x : value p ≡ x) (is_y : value q ≡ y) where
-  pub product_is : fitting (signed_by (differ p.minus q.minus) (p.size * q.size)) ≡ checked_mul x y
-  unfolding checked_mul
-  product_is =
-      ap fitting (sym (mul_signed p.minus q.minus p.size q.size)) ∙ ap₂ checked_mul is_x is_y
+pub fitting-answer : (r : Option ℤ) (z : ℤ) → SomeIff r (SFits w64 z) z → answer r ≡ fitting z
+fitting-answer (Some x) z h = ap some h.1 ∙ sym (fits z h.0.sfits)
+fitting-answer None z h = sym (not_fitting z h)
 
-  pub product_zero : q.size ≡ 0 → some (signed 0) ≡ checked_mul x y
-  product_zero e =
-      zero_fits (differ p.minus q.minus)
-      ∙ ap (λ (k : ℕ). fitting (signed_by (differ p.minus q.minus) k)) (sym (ap (λ (n : ℕ). p.size * n) e ∙ mul-zero p.size))
-      ∙ product_is
+pub sum-answer : (r : Option ℤ) (a b : ℤ) → SomeIff r (SFits w64 (a +ℤ b)) (a +ℤ b) → answer r ≡ checked_add a b
+unfolding checked_add
+sum-answer r a b h = fitting-answer r (a +ℤ b) h
 
-  pub quotient_zero : q.size ≡ 0 → none ≡ checked_div x y
-  unfolding checked_div
-  quotient_zero e =
-      rw (← is_y, size_signed q.minus q.size, eq-eqb q.size 0 e)
+pub difference-answer : (r : Option ℤ) (a b : ℤ) → SomeIff r (SFits w64 (a -ℤ b)) (a -ℤ b) → answer r ≡ checked_sub a b
+unfolding checked_sub
+difference-answer r a b h = fitting-answer r (a -ℤ b) h
 
-  pub quotient_is : (q.size ≡ 0 → ⊥) → fitting (signed_by (differ p.minus q.minus) (p.size / q.size)) ≡ checked_div x y
-  unfolding checked_div
-  quotient_is ne =
-      rw (← is_x, ← is_y, size_signed q.minus q.size, ne_eqb q.size 0 ne)
-      (ap fitting (sym (quot_signed p.minus q.minus p.size q.size ne)))
+pub product-answer : (r : Option ℤ) (a b : ℤ) → SomeIff r (SFits w64 (a *ℤ b)) (a *ℤ b) → answer r ≡ checked_mul a b
+unfolding checked_mul
+product-answer r a b h = fitting-answer r (a *ℤ b) h
+
+-- an i64 has a bit set exactly if it is not 0
+quotient_none : (r : Option ℤ) (a b : ℤ) → eqb (nat_abs b) 0 ≡ true → (0 < of_z w64 b → ⊥) → SomeIff r (CanDivide w64 a b) (quot_z a b)
+    → answer r ≡ checked_div a b
+unfolding checked_div
+quotient_none (Some x) a b e z h = absurd (z h.0.0)
+quotient_none None a b e z h = rw e refl
+
+quotient_fitting : (r : Option ℤ) (a b : ℤ) → eqb (nat_abs b) 0 ≡ false → 0 < of_z w64 b → SomeIff r (CanDivide w64 a b) (quot_z a b)
+    → answer r ≡ checked_div a b
+unfolding checked_div
+quotient_fitting (Some x) a b e n h = rw e (fitting-answer (Some x) (quot_z a b) (h.0.1, h.1))
+quotient_fitting None a b e n h = rw e (fitting-answer None (quot_z a b) (λ f. h (n, f)))
+
+pub quotient-answer : (r : Option ℤ) (a b : ℤ) → SFits w64 b → SomeIff r (CanDivide w64 a b) (quot_z a b) → answer r ≡ checked_div a b
+quotient-answer r a (pos zero) f h = quotient_none r a (pos zero) refl (λ n. omega arith) h
+quotient-answer r a (pos (suc n)) f h = quotient_fitting r a (pos (suc n)) (ne_eqb (suc n) 0 (λ e. omega arith)) (omega arith) h
+quotient-answer r a (negsuc n) f h =
+    let small : n < 2 ^ 63 = f.sfits in
+    quotient_fitting r a (negsuc n) (ne_eqb (suc n) 0 (λ e. omega arith)) (omega arith) h
+
+-- the casts
+pub signed-read : (x : ℕ) → x < 2 ^ 64 → signed x ≡ to_z w64 x
+signed-read x h = signed_as_in_rattle x h
+
+pub as_i64-read : (x : ℕ) → x < 2 ^ 64 → as_i64 x ≡ to_z w64 x
+as_i64-read x h = sym (cast_signed x h) ∙ signed_as_in_rattle x h
+
+pub word-read : (z : ℤ) → word z ≡ of_z w64 z
+unfolding word
+word-read (pos n) = refl
+word-read (negsuc n) = refl
+
+pub ruleset answers =
+    (sum-answer, difference-answer, product-answer, quotient-answer, signed-read, as_i64-read, word-read, to_z-of_z)

@@ -1,4 +1,3 @@
 pub mod Words
-pub mod Signs
 pub mod Answers
 mod Examples

@@ -1,25 +1,19 @@
 -- What a word stands for, and which integers i64 holds: each definition by its halves.
 -- Assumes nothing.
-use Prim.Native.Nat.{ℕ, suc, zero, ◌+◌, ◌-◌, ◌/◌, ◌%◌, ◌^◌, ◌≤◌, ◌<◌}
-use mathlib.Core.Bool.{Bool, true, false}
+use Prim.Native.Nat.{ℕ, suc, ◌-◌, ◌/◌, ◌%◌, ◌^◌, ◌≤◌, ◌<◌}
 use mathlib.Core.Option.{some, none}
 use mathlib.Core.Path.{◌≡◌, sym, ap, ◌∙◌}
 use native.Mathlib.Decide.{dec_le}
 use native.Mathlib.Omega.{arith}
 use lib.Dec.{leb→le, le→leb}
-use lib.IntN.{ℤ, pos, negsuc, neg_ℤ}
+use lib.IntN.{ℤ, pos, negsuc}
 use lib.Signed.{mag, ◌≤ℤ◌}
 use mir.Facts.{to_z_pos}
 use mir.Syntax.{w64}
 use mir.Val.{to_z}
 use borrow.Author.Tests.{lt-ltb, le-ltb, le-leb, lt-leb}
 use Rattle.arith.specs.Checked.{fitting}
-use Rattle.arith.specs.Sign.{signed_by}
 use Rattle.arith.specs.Word.{MIN, MAX, signed, as_i64, word, WordAndBack, IntegerAndBack, SignedIsI64, SignedAsInRattle}
-
-minus_pred : (m : ℕ) → 0 < m → neg_ℤ (pos m) ≡ negsuc (m - 1)
-minus_pred zero h = absurd (omega arith)
-minus_pred (suc m) h = ap negsuc (omega arith)
 
 pub signed_low : (w : ℕ) → w < 2 ^ 63 → signed w ≡ pos w
 unfolding signed
@@ -35,11 +29,6 @@ signed-negsuc w l h =
     let q : w / 2 ^ 63 ≡ 1 = omega arith in
     let t : w - 2 ^ 63 < 2 ^ 63 = omega arith in
     rw (r, q, lt-ltb (w - 2 ^ 63) (2 ^ 63) t) (ap negsuc (omega arith))
-
--- the word of -m is 2^64 - m
-pub signed_high : (w m : ℕ) → 0 < m → m ≤ 2 ^ 63 → w + m ≡ 2 ^ 64 → signed w ≡ neg_ℤ (pos m)
-signed_high w m p l e =
-    signed-negsuc w (omega arith) (omega arith) ∙ ap negsuc (omega arith) ∙ sym (minus_pred m p)
 
 -- what holds of the words of both halves holds of every word
 by_half :
@@ -106,12 +95,7 @@ unfolding fitting
 over (pos n) h = rw (lt-leb n (2 ^ 63 - 1) (omega arith))
 over (negsuc n) h = rw (lt-leb n (2 ^ 63 - 1) (omega arith))
 
-pub fits_minus : (m : ℕ) → 0 < m → m ≤ 2 ^ 63 → fitting (neg_ℤ (pos m)) ≡ some (neg_ℤ (pos m))
-fits_minus m p h = rw (minus_pred m p) (fits (negsuc (m - 1)) (omega arith))
-
-pub over_minus : (m : ℕ) → 2 ^ 63 < m → fitting (neg_ℤ (pos m)) ≡ none
-over_minus m h = rw (minus_pred m (omega arith)) (over (negsuc (m - 1)) (omega arith))
-
-pub over_either : (s : Bool) (m : ℕ) → 2 ^ 63 < m → fitting (signed_by s m) ≡ none
-over_either true m h = over_minus m h
-over_either false m h = over (pos m) (omega arith)
+-- and that is from MIN to MAX
+pub within : (z : ℤ) → mag z < 2 ^ 63 → (MIN ≤ℤ z) × (z ≤ℤ MAX)
+within (pos n) h = (record { le = tt }, record { le = le→leb n (2 ^ 63 - 1) (omega arith) })
+within (negsuc n) h = (record { le = le→leb n (2 ^ 63 - 1) (omega arith) }, record { le = tt })

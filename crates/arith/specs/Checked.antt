@@ -1,12 +1,10 @@
 -- Checked arithmetic of i64, as the standard library documents `i64::checked_add` and its kin: an exact result over the integers, given
 -- where i64 holds it.
 -- Assumes nothing.
-use Rattle.std.specs.Prelude.{cond, ◌&&◌, eqb, ℤ, ◌+ℤ◌, ◌-ℤ◌, ◌*ℤ◌, nat_abs}
+use Rattle.std.specs.Prelude.{cond, ◌&&◌, eqb, ℤ, ◌+ℤ◌, ◌-ℤ◌, ◌*ℤ◌, nat_abs, Option as Answer, Some, None}
 use Rattle.std.proofs.Math.Option.{Option, some, none}
 use Rattle.std.specs.Int.Signed.{le_z, quot_z}
-use Rattle.arith.specs.Word.{MIN, MAX, signed}
-use Rattle.arith.specs.declared.Checked.{Checked}
-use Rattle.arith.specs.declared.Checked.TheVariants.{Value, None}
+use Rattle.arith.specs.Word.{MIN, MAX}
 
 -- "returning None if overflow occurred"
 unfoldable pub fitting : ℤ → Option ℤ
@@ -26,7 +24,7 @@ checked_mul x y = fitting (x *ℤ y)
 unfoldable pub checked_div : ℤ → ℤ → Option ℤ
 checked_div x y = cond (eqb (nat_abs y) 0) none (fitting (quot_z x y))
 
--- what an answer says: `Value w` the integer whose 64 bits are w, `None` that there is none
-abbrev pub answer : Checked → Option ℤ
-answer (Value w) = some (signed w)
+-- what an answer of the code says: the integer, or that there is none
+abbrev pub answer : Answer ℤ → Option ℤ
+answer (Some z) = some z
 answer None = none

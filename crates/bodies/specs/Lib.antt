@@ -3,5 +3,6 @@ pub mod Constraint
 pub mod Constant
 pub mod Bodies
 pub mod Whole
-pub mod Encoded
-pub mod Lowers
+pub mod Annotated
+pub mod Code
+pub mod Agrees

@@ -1,13 +1,13 @@
-// Constants, messages, unions and newtypes of a signal book: their result records and diagnostics.
+//! Constants, messages, unions and newtypes of a signal book: their result records and diagnostics.
 
 #![tactic(auto)]
 
-pub mod consts;
-pub mod decls;
-mod emits;
-mod encodings;
-mod items;
-mod where_expr;
+pub mod body;
+mod constraint;
+mod encoding;
+mod item;
+pub mod laws;
+pub mod reached;
 
 // What stands for no reference.
 const NONE: u16 = 65535;

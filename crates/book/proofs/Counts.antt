@@ -1,80 +1,74 @@
--- The rules of a block, as the code looks at them: byte by byte.
+-- The rules of a block.
 -- Assumes nothing.
-use Prim.Native.Nat.{ℕ, suc, ◌+◌, ◌-◌, ◌≤◌, ◌<◌}
-use mathlib.Core.Bool.{Bool, true, false, not, ◌||◌}
+use Rattle.std.specs.Prelude.{ℕ, Ok, Err}
+use mathlib.Core.Bool.{Bool, true, false, cond, not, ◌&&◌}
 use mathlib.Core.List.{List, [], ◌∷◌, flat_map}
-use mathlib.Core.Option.{some}
+use mathlib.Core.Option.{Option, some, none}
 use mathlib.Core.Path.{◌≡◌, refl, sym, ap, ◌∙◌}
 use native.Mathlib.Omega.{arith}
+use Prim.Native.Nat.{◌+◌, ◌<◌}
+use Rattle.std.specs.List.{list_all}
+use Rattle.std.specs.Prelude.{◌==◌}
 use lib.Dec.{eqb}
-use lib.ListN.{take, drop, get_or}
-use lib.Seq.{take-nil, drop-drop, get_or-drop}
-use borrow.Author.Tests.{eq-eqb, ne_eqb}
-use Rattle.record.specs.Bytes.{little_endian}
 use Rattle.record.specs.Check.{check_holds}
-use Rattle.record.proofs.Numbers.{one_there}
+use Rattle.record.specs.declared.refusal.Refusal as answered
 use Rattle.book.specs.Lists.{any, find, up_to}
 use Rattle.book.specs.Blocks.{block_fault}
-use Rattle.book.specs.Refusal.{check, block, at, faulty, at_block, holds}
-use Rattle.book.proofs.Scans.{find_hit, find_miss, Passed, scan_here, scan_on}
+use Rattle.book.specs.Refusal.{Refusal, check, block, at, faulty, at_block, holds}
+use Rattle.book.specs.Answer.{outcome}
+use Rattle.book.proofs.Scans.{Passed, scan_here, scan_on}
+use Rattle.book.proofs.Answers.{err_not_ok}
 
--- the byte at place n
-pub byte_there : (s : List ℕ) (n : ℕ) → little_endian 1 (drop n s) ≡ get_or s n 0
-byte_there s n = let e : n + 0 ≡ n = omega arith in one_there (drop n s) ∙ get_or-drop n s 0 0 ∙ ap (λ (m : ℕ). get_or s m 0) e
-
-abbrev pub nonzero : ℕ → Bool
-nonzero x = not (eqb x 0)
-
--- the first byte, and those behind it
-any-suc : (m : ℕ) (t : List ℕ) → any nonzero (take (suc m) t) ≡ nonzero (get_or t 0 0) || any nonzero (take m (drop 1 t))
+-- all are zero exactly if none is something else
+pub zeros : (l : List ℕ) → list_all (λ x. x == 0) l ≡ not (any (λ x. not (eqb x 0)) l)
 unfolding any
-any-suc m [] = rw (take-nil m)
-any-suc m (x ∷ t) = go (nonzero x)
+zeros [] = refl
+zeros (x ∷ l) = go (eqb x 0) (zeros l)
   where
-    go : (b : Bool) → elim b [ true ↦ true | false ↦ any nonzero (take m t) ] ≡ b || any nonzero (take m t)
-    go true = refl
-    go false = refl
+    go :
+        (b : Bool) → list_all (λ x. x == 0) l ≡ not (any (λ x. not (eqb x 0)) l) →
+        b && list_all (λ x. x == 0) l ≡ not (elim (not b) [ true ↦ true | false ↦ any (λ x. not (eqb x 0)) l ])
+    go true e = e
+    go false e = refl
 
-module _ (s : List ℕ) where
-  -- a byte from place i up to the check of the block at the front of s is not zero
-  abbrev pub filled : ℕ → Bool
-  filled i = any nonzero (take (510 - i) (drop i s))
+-- the first refusal at block k
+module _ (book : List ℕ) (k : ℕ) where
+  at_block_is : (a b : Bool) → check_holds book k ≡ a → block_fault book k ≡ b → find (holds book) (at_block k) ≡ cond a (cond b (some (at block k)) none) (some (at check k))
+  unfolding find faulty
+  at_block_is true true p q = rw (p, q, find) refl
+  at_block_is true false p q = rw (p, q, find) refl
+  at_block_is false b p q = rw (p, find) refl
 
-  filled_step : (i : ℕ) → i < 510 → filled i ≡ nonzero (little_endian 1 (drop i s)) || filled (i + 1)
-  filled_step i less =
-      let e : 510 - i ≡ suc (510 - (i + 1)) = omega arith in
-      rw (e, one_there (drop i s), ← drop-drop 1 i s) (any-suc (510 - (i + 1)) (drop i s))
+  pub check_told : check_holds book k ≡ false → Err (record { cause = Rattle.record.specs.declared.refusal.Cause.TheVariants.Check; place = k }) ≡ outcome (find (holds book) (at_block k))
+  unfolding outcome
+  check_told p = ap outcome (sym (at_block_is false (block_fault book k) p refl))
 
-  pub filled_here : (i : ℕ) → i < 510 → (little_endian 1 (drop i s) ≡ 0 → ⊥) → filled i ≡ true
-  filled_here i less h = rw (filled_step i less, ne_eqb (little_endian 1 (drop i s)) 0 h)
+  pub block_told : check_holds book k ≡ true → block_fault book k ≡ true → Err (record { cause = Rattle.record.specs.declared.refusal.Cause.TheVariants.Block; place = k }) ≡ outcome (find (holds book) (at_block k))
+  unfolding outcome
+  block_told p q = ap outcome (sym (at_block_is true true p q))
 
-  pub filled_on : (i : ℕ) → i < 510 → little_endian 1 (drop i s) ≡ 0 → filled i ≡ filled (i + 1)
-  filled_on i less h = rw (filled_step i less, eq-eqb (little_endian 1 (drop i s)) 0 h)
+  pub none_told : check_holds book k ≡ true → block_fault book k ≡ false → Ok tt ≡ outcome (find (holds book) (at_block k))
+  unfolding outcome
+  none_told p q = ap outcome (sym (at_block_is true false p q))
 
-  pub filled_end : (i : ℕ) → 510 ≤ i → filled i ≡ false
-  unfolding any
-  filled_end i past = let e : 510 - i ≡ 0 = omega arith in rw e
+-- the loop over the blocks
+pub block_found :
+    (book : List ℕ) {n k : ℕ} {e : answered.Refusal} → Err e ≡ outcome (find (holds book) (at_block k)) → k < n → Passed (holds book) at_block k n →
+    Err e ≡ outcome (find (holds book) (flat_map at_block (up_to n)))
+unfolding outcome
+block_found book {n} {k} {e} told low inv = go (find (holds book) (at_block k)) refl told
+  where
+    go : (o : Option Refusal) → find (holds book) (at_block k) ≡ o → Err e ≡ outcome o → Err e ≡ outcome (find (holds book) (flat_map at_block (up_to n)))
+    go none first is = absurd (err_not_ok tt is)
+    go (some x) first is = is ∙ ap outcome (sym (inv.1 ∙ scan_here (holds book) at_block k n x low first))
 
--- block k, where the blocks before it have no fault: its check is looked at first
-module _ (book : List ℕ) (n k : ℕ) (before : Passed (holds book) at_block k n) (less : k < n) where
-  pub check_first : check_holds book k ≡ false → some (at check k) ≡ find (holds book) (flat_map at_block (up_to n))
-  unfolding faulty
-  check_first e =
-      sym (before.1 ∙ scan_here (holds book) at_block k n (at check k) less (find_hit (holds book) (at check k) _ (ap not e)))
-
-  module _ (e : check_holds book k ≡ true) where
-    check_passed : find (holds book) (at_block k) ≡ find (holds book) (at block k ∷ [])
-    unfolding faulty
-    check_passed = find_miss (holds book) (at check k) _ (ap not e)
-
-    pub block_first : block_fault book k ≡ true → some (at block k) ≡ find (holds book) (flat_map at_block (up_to n))
-    unfolding faulty
-    block_first f =
-        let here = check_passed ∙ find_hit (holds book) (at block k) [] f in
-        sym (before.1 ∙ scan_here (holds book) at_block k n (at block k) less here)
-
-    pub block_passed : block_fault book k ≡ false → Passed (holds book) at_block (k + 1) n
-    unfolding faulty find
-    block_passed f =
-        let here = check_passed ∙ find_miss (holds book) (at block k) [] f in
-        (omega arith, before.1 ∙ scan_on (holds book) at_block k n less here)
+pub block_passed :
+    (book : List ℕ) {n k : ℕ} {x : Unit {0}} → Ok x ≡ outcome (find (holds book) (at_block k)) → k < n → Passed (holds book) at_block k n →
+    Passed (holds book) at_block (k + 1) n
+unfolding outcome
+block_passed book {n} {k} {x} told low inv =
+    (omega arith, inv.1 ∙ scan_on (holds book) at_block k n low (go (find (holds book) (at_block k)) told))
+  where
+    go : (o : Option Refusal) → Ok x ≡ outcome o → o ≡ none
+    go none is = refl
+    go (some y) is = absurd (err_not_ok x (sym is))

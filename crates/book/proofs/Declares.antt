@@ -3,7 +3,7 @@
 use Prim.Native.Nat.{ℕ, zero, suc, ◌+◌, ◌-◌, ◌*◌, ◌/◌, ◌%◌, ◌^◌, ◌≤◌, ◌<◌}
 use mathlib.Core.Bool.{Bool, true, false, cond, ◌&&◌, ◌||◌, false≢true, true≢false, and-true, or-true, or-false}
 use mathlib.Core.List.{List, Memᴰ}
-use mathlib.Core.Path.{◌≡◌, refl, sym, ap, ◌∙◌}
+use mathlib.Core.Path.{◌≡◌, refl, sym, ap, ◌∙◌, subst}
 use native.Mathlib.Decide.{ℕ_discrete}
 use native.Mathlib.Omega.{arith}
 use lib.Dec.{leb, eqb, eqb-zero-suc, eqb-suc-zero}
@@ -11,14 +11,17 @@ use lib.ListN.{length, take, set, get_or, replicate, length-set, length-replicat
 use lib.Seq.{get_or-set_same, get_or-set_other}
 use borrow.Author.Tests.{ltb-true, leb-true, eqb-true, eqb-false, le-leb, eq-eqb, ne_eqb}
 use Rattle.record.specs.declared.Record.{Record}
+use Rattle.record.specs.declared.kind.Kind.{Kind}
+use Rattle.record.specs.declared.kind.Kind.TheVariants.{Message}
+use Rattle.record.specs.Kind.{code_of}
 use Rattle.book.specs.Lists.{All, any, keep}
 use Rattle.book.specs.Shape.{table, name, allows, well_shaped}
 use Rattle.book.specs.Faults.{record_of, name_set, name_fault}
-use Rattle.book.specs.Tables.{set_bit, has_bit, Names}
+use Rattle.book.specs.Tables.{set_bit, has_bit, bit_of, Names}
 use Rattle.book.specs.Trees.{WellFormed}
 use Rattle.book.proofs.Lists.{either}
 use Rattle.book.proofs.Members.{keep_mem, mem_any, of_all, at_mem_take}
-use Rattle.book.proofs.Trees.{both_so, not_so, shaped_row}
+use Rattle.book.proofs.Trees.{both_so, not_so, shaped_row, with_kind}
 use Rattle.book.proofs.Listed.{any_next}
 
 -- the kind is that of a declaration
@@ -43,7 +46,7 @@ module _ (r : Record) where
       other : (k : ℕ) → 20 ≤ k → k ≤ 25 → eqb r.kind k ≡ false
       other k low high = ne_eqb r.kind k (λ e. out (omega arith) (omega arith))
 
-  pub few_sets : name_set r ≤ 3
+  few_sets : name_set r ≤ 3
   unfolding name_set
   few_sets =
       below (leb 20 r.kind && leb r.kind 23) (omega arith)
@@ -129,13 +132,6 @@ low_bits t x low = ap (λ m. eqb m 1) (go t x low)
     go (suc (suc zero)) x low = let part : x / 4 ≡ 2 * (x / 8) + x % 8 / 4 = omega arith in omega arith
     go (suc (suc (suc t))) x low = absurd (omega arith)
 
-few_bits : (s : ℕ) → s ≤ 3 → set_bit s ≤ 4
-few_bits zero low = omega arith
-few_bits (suc zero) low = omega arith
-few_bits (suc (suc zero)) low = omega arith
-few_bits (suc (suc (suc zero))) low = omega arith
-few_bits (suc (suc (suc (suc s)))) low = absurd (omega arith)
-
 -- a record with a bit declares in the set of that bit
 module _ (r : Record) {bit : ℕ} (is : bit ≡ set_bit (name_set r)) (some : bit ≡ 0 → ⊥) where
   in_set : name_set r ≡ suc (name_set r - 1)
@@ -147,8 +143,14 @@ module _ (r : Record) {bit : ℕ} (is : bit ≡ set_bit (name_set r)) (some : bi
   pub name_low : (0 < name_set r → r.a < 4096) → r.a < 4096
   name_low named = named (omega (arith, in_set))
 
-  pub bit_low : bit ≤ 4
-  bit_low = omega (arith, few_bits (name_set r) (few_sets r))
+-- the bit of the set of a kind
+pub bit_is_lem : (k : Kind) (r : Record) → r.kind ≡ code_of k → bit_of k ≡ set_bit (name_set r)
+unfolding name_set
+bit_is_lem k r is = subst (λ n. bit_of k ≡ set_bit (name_set (with_kind n r))) (sym is) (by k)
+  where
+    by : (k : Kind) → bit_of k ≡ set_bit (name_set (with_kind (code_of k) r))
+    by Message = refl
+    by _ = refl
 
 -- before record 0 nothing is declared
 pub names_start : (rs : List Record) → Names rs 0 (replicate 4096 0)

@@ -1,41 +1,83 @@
--- One record after the other: which fault of a record comes first, and that the tables hold what the next one asks for.
+-- One record after the other: which fault of a record comes first, and what is known behind it if it has none.
 -- Assumes nothing.
-use Prim.Native.Nat.{ℕ, suc, ◌+◌, ◌≤◌, ◌<◌}
+use Rattle.std.specs.Prelude.{Option, Some, Result, Ok, Err}
+use Prim.Native.Nat.{ℕ, suc, ◌+◌, ◌<◌}
 use mathlib.Core.Bool.{Bool, true, false, cond, not}
 use mathlib.Core.List.{List, [], flat_map}
-use mathlib.Core.Option.{Option, some, none, none-ne-some, some-ne-none}
+use mathlib.Core.Option as defined
+use mathlib.Core.Option.{some, none, some-ne-none}
 use mathlib.Core.Path.{◌≡◌, refl, sym, ap, ◌∙◌, subst}
 use native.Mathlib.Numerals.{add-one}
 use native.Mathlib.Omega.{arith}
 use lib.Dec.{leb, ltb}
 use lib.ListN.{length, set}
-use borrow.Author.Tests.{leb-false, ltb-false, not-false}
+use borrow.Author.Tests.{leb-false, ltb-false, ltb-true, not-false, eq-eqb, le-leb, lt-leb}
 use Rattle.record.specs.declared.Record.{Record}
 use Rattle.record.specs.Layout.{record_at}
-use Rattle.book.specs.declared.Cause as code
-use Rattle.book.specs.declared.Cause.TheVariants.{Shape, Child, Follow, Name, Depth}
-use Rattle.book.specs.declared.fault.Fault.{Fault}
-use Rattle.book.specs.declared.fault.Fault.TheVariants.{Nothing, At}
-use Rattle.book.specs.declared.follow.Place.{Place}
-use Rattle.book.specs.Lists as lists
-use Rattle.book.specs.Lists.{All, find, up_to}
-use Rattle.book.specs.Shape.{table, row_of, fits, well_shaped, child_in, children_by, children}
+use Rattle.record.specs.declared.refusal.Cause as code_cause
+use Rattle.record.specs.declared.refusal.Cause.TheVariants as code
+use Rattle.record.specs.declared.refusal.Refusal as answered
+use Rattle.book.specs.declared.shape.Group.{Group}
+use Rattle.book.specs.declared.shape.Group.TheVariants as group
+use Rattle.book.specs.declared.shape.Field.TheVariants.{Unused}
+use Rattle.record.specs.declared.kind.Kind.TheVariants.{Primitive}
+use Rattle.book.specs.declared.shape.Row as code_row
+use Rattle.book.specs.declared.children.Tree.{Tree}
+use Rattle.book.specs.declared.scan.Scan.{Scan}
+use Rattle.book.specs.Lists.{All, find, up_to, any}
+use Rattle.book.specs.Shape.{Child, row_of, fits, well_shaped, child_in, children_by, children, is_of, in_group}
 use Rattle.book.specs.Blocks.{record_count, records}
-use Rattle.book.specs.Faults.{record_of, shape_fault, child_fault, before, may_follow, follow_fault, name_fault, depth_fault}
-use Rattle.book.specs.Refusal.{Refusal, shape, child, follow, name, depth, at, faulty, at_record, holds}
-use Rattle.book.specs.Answer.{cause_of, refusal_of}
-use Rattle.book.specs.Rows.{row_at, cell_in, group_of, Primitive}
-use Rattle.book.specs.Tables.{following, set_bit, Roots, Takes, Names, Depths, deepest_of, Counted, Placed, Kept, Ready, Looked}
+use Rattle.book.specs.Faults.{record_of, shape_fault, child_fault, before, may_follow, follow_fault, name_fault, depth_fault, is_wrong, deeper_than}
+use Rattle.book.specs.Refusal.{Cause, Refusal, shape, child, follow, name, depth, at, faulty, at_record, holds}
+use Rattle.book.specs.Answer.{named, outcome}
+use Rattle.book.specs.Rows.{group_from, row_from, is_outside_group, IsRow, is_plain}
+use Rattle.book.specs.Tables.{following, set_bit, Trees, wrong, TakenAll, unless, too_deep, grown, grown_by, Names, Counted, Placed, place_of, Known, Ready, Looked}
 use Rattle.book.proofs.Trees.{both_not, none_passes}
 use Rattle.book.proofs.Records.{records-length, record_here}
 use Rattle.book.proofs.Scans.{Passed, scan_here, scan_on}
-use Rattle.book.proofs.Places.{before_next, not_item}
-use Rattle.book.proofs.Marks.{none_taken, roots_next, child_fault_lem}
+use Rattle.book.proofs.Cells.{inside_is, primitive_is}
+use Rattle.book.proofs.Places.{before_next, not_item, placed_same}
+use Rattle.book.proofs.Marks.{take_none, trees_next, child_fault_lem, deeper_at, depth_fault_lem}
 use Rattle.book.proofs.Declares.{no_set, declares_none}
-use Rattle.book.proofs.Levels.{depth_fault_lem, depths_next}
+use Rattle.book.proofs.Answers.{err_not_ok}
+
+-- what is answered unless something holds
+pub unless_err : {e : answered.Refusal} (b : Bool) (c : code_cause.Cause) (n : ℕ) → Err e ≡ unless b c n → (b ≡ false) × (e ≡ record { cause = c; place = n })
+unless_err true c n is = absurd (err_not_ok tt is)
+unless_err false c n is = (refl, cc)
+
+pub unless_ok : {x : Unit {0}} (b : Bool) (c : code_cause.Cause) (n : ℕ) → Ok x ≡ unless b c n → b ≡ true
+unless_ok true c n is = refl
+unless_ok {x} false c n is = absurd (err_not_ok x (sym is))
+
+-- the tree that grows, or cause 8
+err_no_tree : {e : answered.Refusal} {t : Tree} → ◌≡◌ {A = Result Tree answered.Refusal} (Err e) (Ok t) → ⊥
+err_no_tree is = cc
+
+pub grown_err : {e : answered.Refusal} (n : ℕ) (g : Group) (levels : ℕ) → Err e ≡ grown n g levels → (too_deep g levels ≡ true) × (e ≡ record { cause = code.Depth; place = n })
+grown_err {e} n g levels is = go (too_deep g levels) is
+  where
+    go : (b : Bool) → Err e ≡ grown_by b n g levels → (b ≡ true) × (e ≡ record { cause = code.Depth; place = n })
+    go true is = (refl, cc)
+    go false is = absurd (err_no_tree is)
+
+pub grown_ok : {t : Tree} (n : ℕ) (g : Group) (levels : ℕ) → Ok t ≡ grown n g levels → (too_deep g levels ≡ false) × (t ≡ record { group = g; levels = levels + 1 })
+grown_ok {t} n g levels is = go (too_deep g levels) is
+  where
+    go : (b : Bool) → Ok t ≡ grown_by b n g levels → (b ≡ false) × (t ≡ record { group = g; levels = levels + 1 })
+    go true is = absurd (err_no_tree (sym is))
+    go false is = (refl, cc)
+
+-- at least 64, or above 63
+above : (levels : ℕ) → leb 64 levels ≡ ltb 63 levels
+above levels = go (ltb 63 levels) refl
+  where
+    go : (b : Bool) → ltb 63 levels ≡ b → leb 64 levels ≡ b
+    go true t = le-leb 64 levels (omega (arith, ltb-true 63 levels t))
+    go false t = lt-leb 64 levels (omega (arith, ltb-false 63 levels t))
 
 -- the first that holds of causes 4 to 8 at record n
-first_of : ℕ → Bool → Bool → Bool → Bool → Bool → Option Refusal
+first_of : ℕ → Bool → Bool → Bool → Bool → Bool → defined.Option Refusal
 first_of n s c f m d =
     elim s [
       | true ↦ some (at shape n)
@@ -59,251 +101,171 @@ module _ (book : List ℕ) (n : ℕ) where
   unfolding find faulty first_of
   first_is_lem s c f m d = λ i. first_of n (s i) (c i) (f i) (m i) (d i)
 
--- a fault that is the first is told, and nothing is asked of the tables
-pub turned_back :
-    {book : List ℕ} {n : ℕ} {x : Fault} {roots names depths : List ℕ} (c : code.Cause) →
-    find (holds book) (at_record n) ≡ some (at (cause_of c) n) → x ≡ At c n → Looked book n x roots names depths
-unfolding refusal_of
-turned_back c first e =
-    let is = ap refusal_of e in
-    record { fault_is = is ∙ sym first; kept = λ h. absurd (none-ne-some _ (sym h ∙ is)) }
+-- a fault that is the first is told
+told :
+    {book : List ℕ} {n : ℕ} {e : answered.Refusal} {s : Scan} (c : Cause) →
+    e ≡ record { cause = named c; place = n } → find (holds book) (at_record n) ≡ some (at c n) → Looked book n (Err e) s
+unfolding outcome
+told c is first =
+    record {
+      answer_is = (λ i. let r : Result Unit answered.Refusal = Err (is i) in r) ∙ ap outcome (sym first);
+      known = λ x. absurd (err_not_ok tt x);
+    }
 
--- what is learnt of record n, which is r, in turn; `row` is the number of its row
-module _
-    {book : List ℕ} {n : ℕ} {r : Record} {p : Place} {roots₀ names₀ depths₀ : List ℕ}
-    (ready : Ready book n r p roots₀ names₀ depths₀) (row : ℕ) where
+module _ {book : List ℕ} {n : ℕ} {r : Record} {s₀ : Scan} (ready : Ready book n r s₀) where
   abbrev rs : List Record
   rs = records book
 
-  -- its shape is right
-  pub record Shaped : Type 0 where
-    pub found : row_at row ≡ row_of r
-    pub fitting : fits r (row_at row) ≡ true
+  -- record n is one of the records
+  pub less : n < length rs
+  less = omega (arith, records-length book, ready.here.within)
 
-  -- and so are its children, which are roots no more
-  pub record Right (roots : List ℕ) : Type 0 where
-    pub shaped : Shaped
-    pub taken : Takes rs n [] (children_by r (row_at row)) false roots
+  shaped_by : {b : Bool} → fits r (row_of r) ≡ b → shape_fault rs n ≡ not b
+  unfolding shape_fault well_shaped
+  shaped_by {b} e = ap not (subst (λ r. fits r (row_of r) ≡ b) ready.is e)
 
-  -- and it may stand where it stands
-  pub record Stands (roots : List ℕ) : Type 0 where
-    pub right : Right roots
-    pub follows : may_follow r (before rs n) ≡ true
+  pub not_shaped : {e : answered.Refusal} {s : Scan} → fits r (row_of r) ≡ false → e ≡ record { cause = code.Shape; place = n } → Looked book n (Err e) s
+  unfolding first_of
+  not_shaped off e = told shape e (first_is_lem book n (shaped_by off) refl refl refl refl)
 
-  -- and declares no name again
-  pub record New (roots : List ℕ) : Type 0 where
-    pub stands : Stands roots
-    pub new : name_fault rs n ≡ false
-
-  -- the fault of record n that comes first
-  abbrev Faulty : code.Cause → Type 0
-  Faulty c = find (holds book) (at_record n) ≡ some (at (cause_of c) n)
-
-  followed_by : {b : Bool} → may_follow r (before rs n) ≡ b → follow_fault rs n ≡ not b
-  unfolding follow_fault
-  followed_by {b} e = ap not (subst (λ r. may_follow r (before rs n) ≡ b) ready.is e)
-
-  module _ (found : row_at row ≡ row_of r) where
-    shaped_by : {b : Bool} → fits r (row_at row) ≡ b → well_shaped (record_of rs n) ≡ b
-    unfolding well_shaped
-    shaped_by {b} e = subst (λ r. fits r (row_of r) ≡ b) ready.is (subst (λ o. fits r o ≡ b) found e)
-
-    children_by_lem : children_by r (row_at row) ≡ children (record_of rs n)
+  module _ {w : code_row.Row} (is : IsRow r w) where
+    same_children : children_by r (some (row_from w)) ≡ children (record_of rs n)
     unfolding children
-    children_by_lem = ap (children_by r) found ∙ ap (λ r. children_by r (row_of r)) ready.is
+    same_children = ap (children_by r) (sym is.row_is) ∙ ap (λ r. children_by r (row_of r)) ready.is
 
-    pub not_shaped : fits r (row_at row) ≡ false → Faulty Shape
-    unfolding first_of shape_fault cause_of
-    not_shaped e = first_is_lem book n (ap not (shaped_by e)) refl refl refl refl
-
-    pub no_row : row ≡ 38 → Faulty Shape
-    unfolding row_at table lists.at
-    no_row e = not_shaped (ap (λ k. fits r (row_at k)) e)
-
-module _
-    {book : List ℕ} {n : ℕ} {r : Record} {p : Place} {roots₀ names₀ depths₀ : List ℕ}
-    {ready : Ready book n r p roots₀ names₀ depths₀} {row : ℕ} where
-  module _ (s : Shaped ready row) where
-    pub well_shaped_lem : well_shaped r ≡ true
-    well_shaped_lem = subst (λ r. well_shaped r ≡ true) (sym ready.is) (shaped_by ready row s.found s.fitting)
-
-    shaped : shape_fault (records book) n ≡ false
-    unfolding shape_fault
-    shaped = ap not (shaped_by ready row s.found s.fitting)
-
-    taken_by : {w : Bool} {roots : List ℕ} → Takes (records book) n [] (children_by r (row_at row)) w roots → child_fault (records book) n ≡ w
-    taken_by {w} {roots} t =
-        sym (child_fault_lem (records book) n w roots
-        (subst (λ cs. Takes (records book) n [] cs w roots) (children_by_lem ready row s.found) t))
+    children_wrong : {b : Bool} → wrong rs n [] (children_by r (some (row_from w))) ≡ b → child_fault rs n ≡ b
+    children_wrong {b} e = sym (child_fault_lem rs n) ∙ subst (λ cs. wrong rs n [] cs ≡ b) same_children e
 
     pub wrong_child :
-        {w : Bool} {roots : List ℕ} → Takes (records book) n [] (children_by r (row_at row)) w roots → w ≡ true → Faulty ready row Child
-    unfolding first_of cause_of
-    wrong_child t e = first_is_lem book n shaped (taken_by t ∙ e) refl refl refl
+        {e : answered.Refusal} {s : Scan} → wrong rs n [] (children_by r (some (row_from w))) ≡ true → e ≡ record { cause = code.Child; place = n } →
+        Looked book n (Err e) s
+    unfolding first_of
+    wrong_child off e = told child e (first_is_lem book n (shaped_by is.fitting) (children_wrong off) refl refl refl)
 
-    pub right_children :
-        {w : Bool} {roots : List ℕ} → Takes (records book) n [] (children_by r (row_at row)) w roots → w ≡ false → Right ready row roots
-    right_children {roots = roots} t e =
-        record { shaped = s; taken = subst (λ w. Takes (records book) n [] (children_by r (row_at row)) w roots) e t }
+    module _ {levels : ℕ} {trees : List (Option Tree)} (taken : TakenAll rs n [] (children_by r (some (row_from w))) levels trees) where
+      follow_by : {b : Bool} → may_follow r (before rs n) ≡ b → follow_fault rs n ≡ not b
+      unfolding follow_fault
+      follow_by {b} e = ap not (subst (λ r. may_follow r (before rs n) ≡ b) ready.is e)
 
-  module _ {roots : List ℕ} where
-    right : Right ready row roots → child_fault (records book) n ≡ false
-    right t = taken_by t.shaped t.taken
+      pub not_following :
+          {e : answered.Refusal} {s : Scan} → may_follow r (before rs n) ≡ false → e ≡ record { cause = code.Follow; place = n } → Looked book n (Err e) s
+      unfolding first_of
+      not_following off e = told follow e (first_is_lem book n (shaped_by is.fitting) (children_wrong taken.right) (follow_by off) refl refl)
 
-    pub not_following : Right ready row roots → may_follow r (before (records book) n) ≡ false → Faulty ready row Follow
-    unfolding first_of cause_of
-    not_following t e = first_is_lem book n (shaped t.shaped) (right t) (followed_by ready row e) refl refl
+      module _ (may : may_follow r (before rs n) ≡ true) where
+        pub named_again :
+            {e : answered.Refusal} {s : Scan} → not (name_fault rs n) ≡ false → e ≡ record { cause = code.Name; place = n } → Looked book n (Err e) s
+        unfolding first_of
+        named_again off e =
+            told name e (first_is_lem book n (shaped_by is.fitting) (children_wrong taken.right) (follow_by may) (not-false (name_fault rs n) off) refl)
 
-    pub named_again : Stands ready row roots → name_fault (records book) n ≡ true → Faulty ready row Name
-    unfolding first_of cause_of
-    named_again t e = first_is_lem book n (shaped t.right.shaped) (right t.right) (followed_by ready row t.follows) e refl
+        module _ (new : name_fault rs n ≡ false) where
+          deepest : (d : ℕ) → any (λ c. deeper_than d rs c.number) (children (record_of rs n)) ≡ ltb d levels
+          deepest d = subst (λ cs. any (λ c. deeper_than d rs c.number) cs ≡ ltb d levels) same_children (taken.deepest d)
 
-    module _ (t : New ready row roots) {d : ℕ} (deepest : d ≡ deepest_of depths₀ (children_by r (row_at row))) where
-      abbrev too_deep : Bool
-      too_deep = cond (ltb r.kind 20) (leb 64 d) (ltb 64 d)
+          -- too deep by the group, as by the kind
+          deep_by : {b : Bool} → too_deep w.group levels ≡ b → depth_fault rs n ≡ b
+          deep_by {b} e =
+              depth_fault_lem rs n levels deepest
+              ∙ ap (λ (r : Record). cond (ltb r.kind 20) (leb 64 levels) (ltb 64 levels)) (sym ready.is)
+              ∙ ap (λ b. cond b (leb 64 levels) (ltb 64 levels)) (sym (inside_is is))
+              ∙ go (is_outside_group w.group) e
+            where
+              go : (g : Bool) → cond g (ltb 64 levels) (ltb 63 levels) ≡ b → cond (not g) (leb 64 levels) (ltb 64 levels) ≡ b
+              go true e = e
+              go false e = above levels ∙ e
 
-      abbrev of : Right ready row roots
-      of = t.stands.right
+          pub too_deep_told : {e : answered.Refusal} {s : Scan} → too_deep w.group levels ≡ true → e ≡ record { cause = code.Depth; place = n } → Looked book n (Err e) s
+          unfolding first_of
+          too_deep_told off e =
+              told depth e (first_is_lem book n (shaped_by is.fitting) (children_wrong taken.right) (follow_by may) new (deep_by off))
 
-      same_children : children_by r (row_at row) ≡ children (record_of (records book) n)
-      same_children = children_by_lem ready row of.shaped.found
+          earlier : All (λ (c : Child). c.number < n) (children (record_of rs n))
+          unfolding child_fault
+          earlier =
+              none_passes (is_wrong rs n) (λ c e. leb-false n c.number (both_not _ _ (both_not _ _ e).0).0) (children (record_of rs n))
+              (both_not _ _ (children_wrong taken.right)).0
 
-      earlier : All (λ c. c.number < n) (children (record_of (records book) n))
-      unfolding child_fault
-      earlier = none_passes _ (λ c e. leb-false _ _ (both_not _ _ (both_not _ _ e).0).0) _ (both_not _ _ (right of)).0
-
-      deepest_is : d ≡ deepest_of depths₀ (children (record_of (records book) n))
-      deepest_is = deepest ∙ ap (deepest_of depths₀) same_children
-
-      first_by : {b : Bool} → too_deep ≡ b → find (holds book) (at_record n) ≡ first_of n false false false false b
-      first_by e =
-          first_is_lem book n (shaped of.shaped) (right of) (followed_by ready row t.stands.follows) t.new
-          (depth_fault_lem (records book) n depths₀ ready.kept.depths_are earlier
-          ∙ sym (λ i. cond (ltb (ready.is i).kind 20) (leb 64 (deepest_is i)) (ltb 64 (deepest_is i)))
-          ∙ e)
-
-      pub too_deep_lem : too_deep ≡ true → Faulty ready row Depth
-      unfolding first_of cause_of
-      too_deep_lem e = first_by e
-
-      not_deeper : (b : Bool) (d : ℕ) → cond b (leb 64 d) (ltb 64 d) ≡ false → d ≤ 64
-      not_deeper true d e = omega (arith, leb-false 64 d e)
-      not_deeper false d e = omega (arith, ltb-false 64 d e)
-
-      pub passed :
-          {names : List ℕ} {group : ℕ} (x : Fault) → x ≡ Nothing → too_deep ≡ false → Names (records book) (suc n) names →
-          group ≡ cell_in (row_at row) 0 → Looked book n x (set roots n group) names (set depths₀ n (d + 1))
-      unfolding first_of refusal_of
-      passed x nothing e named grouped =
-          record {
-            fault_is = ap refusal_of nothing ∙ sym (first_by e);
-            kept = λ h. record {
-              roots_are =
-                  roots_next (records book) n roots (omega arith) earlier
-                  (grouped ∙ ap (λ o. cell_in o 0) of.shaped.found ∙ ap group_of ready.is)
-                  (subst (λ cs. Roots (records book) n cs roots) same_children (of.taken.left refl));
-              names_are = named;
-              depths_are =
-                  subst (λ k. Depths (records book) (suc n) (set depths₀ n (k + 1))) (sym deepest_is)
-                  (depths_next (records book) n depths₀ ready.kept.depths_are earlier (omega arith)
-                  (subst (λ k. k ≤ 64) deepest_is (not_deeper (ltb r.kind 20) d e)));
-            };
-          }
-
--- record n is one of the records
-pub less :
-    {book : List ℕ} {n : ℕ} {r : Record} {p : Place} {roots names depths : List ℕ} →
-    Ready book n r p roots names depths → n < length (records book)
-less {book} ready = omega (arith, records-length book, ready.here.within)
+          pub passed :
+              {s : Scan} {x : Unit {0}} → too_deep w.group levels ≡ false → s.trees ≡ set trees n (Some (record { group = w.group; levels = levels + 1 })) →
+              Names rs (suc n) s.names → Placed (following r (before rs n)) (place_of s.place) → Looked book n (Ok x) s
+          unfolding first_of outcome is_of
+          passed {s} {x} fine tree_is named placed =
+              record {
+                answer_is =
+                    ap outcome
+                    (sym (first_is_lem book n (shaped_by is.fitting) (children_wrong taken.right) (follow_by may) new (deep_by fine)));
+                known = λ _. record {
+                  trees_are =
+                      subst (Trees rs (suc n) []) (sym tree_is)
+                      (trees_next rs n trees (record { group = w.group; levels = levels + 1 }) (omega (arith, ready.here.within, ready.here.few)) earlier
+                      (record {
+                        of_group =
+                            subst (λ r. in_group (group_from w.group) (row_of r) ≡ true) ready.is
+                            (ap (in_group (group_from w.group)) is.row_is ∙ eq-eqb _ _ refl);
+                        levels_are = deeper_at rs n levels deepest;
+                      })
+                      (subst (λ cs. Trees rs n cs trees) same_children taken.left));
+                  names_are = named;
+                  placed =
+                      subst (λ bs. Placed bs (place_of s.place))
+                      (ap (λ r. following r (before rs n)) ready.is ∙ sym (before_next rs n less)) placed;
+                };
+              }
 
 -- a primitive type passes: it has no children, stands anywhere, and declares no name
-module _ (r : Record) where
-  no_children : children_by r (row_at 0) ≡ []
-  unfolding row_at table lists.at child_in
-  no_children = refl
-
-  of_types : 1 ≡ cell_in (row_at 0) 0
-  unfolding row_at table lists.at cell_in
-  of_types = refl
+abbrev first : code_row.Row
+first = record { group = group.«Type»; kind = Primitive; low = 0; high = 13; a = Unused; b = Unused; c = Unused; v = Unused }
 
 pub primitive_passes :
-    {book : List ℕ} {n : ℕ} {r : Record} {p : Place} {roots names depths : List ℕ} →
-    Ready book n r p roots names depths → Primitive r → (x : Fault) → x ≡ Nothing →
-    Looked book n x (set roots n 1) names (set depths n 1)
-unfolding deepest_of
-primitive_passes {book} {n} {r} {roots = roots} {depths = depths} ready is x nothing =
-    let rs = records book in
-    let none_declared = ap set_bit (sym (no_set r (λ low high. omega (arith, is.kind_is)))) in
-    let (new, named) = declares_none ready.kept.names_are (less ready) ready.is none_declared in
-    let taken = subst (λ cs. Takes rs n [] cs false roots) (sym (no_children r)) (none_taken ready.kept.roots_are) in
-    let right : Right ready 0 roots = record { shaped = record { found = is.found; fitting = is.fitting }; taken = taken } in
-    let stands : Stands ready 0 roots = record { right = right; follows = not_item r (before rs n) (omega (arith, is.kind_is)) } in
-    passed (record { stands = stands; new = sym new })
-    (ap (deepest_of depths) (sym (no_children r))) x nothing (ap (λ k. cond (ltb k 20) false false) is.kind_is) named (of_types r)
+    {book : List ℕ} {n : ℕ} {r : Record} {s₀ : Scan} {x : Unit {0}} → Ready book n r s₀ → is_plain r ≡ true →
+    Looked book n (Ok x) (record { trees = set s₀.trees n (Some (record { group = group.«Type»; levels = 1 })); names = s₀.names; place = s₀.place })
+unfolding child_in
+primitive_passes {book} {n} {r} {s₀} ready plain =
+    let bs = before (records book) n in
+    let known = primitive_is r plain in
+    let is : IsRow r first = record { row_is = known.row_is; fitting = known.fitting } in
+    let taken : TakenAll (records book) n [] (children_by r (some (row_from first))) 0 s₀.trees = take_none ready.known.trees_are in
+    let none_declared = ap set_bit (sym (no_set r (λ low high. omega (arith, known.kind_is)))) in
+    let (new, named) = declares_none ready.known.names_are (less ready) ready.is none_declared in
+    passed ready is taken (not_item r bs (omega (arith, known.kind_is))) (sym new) refl refl named
+    (placed_same r bs (place_of s₀.place) (omega (arith, known.kind_is)) ready.known.placed)
 
 -- before record n is looked at
-pub ready :
-    {book : List ℕ} {count n : ℕ} {r : Record} {p : Place} {roots names depths : List ℕ} →
-    Counted book count → n < count → r ≡ record_at book n → Placed (before (records book) n) p → Kept book n roots names depths →
-    Ready book n r p roots names depths
-ready {book} {n = n} counted less is placed kept =
+pub ready_at :
+    {book : List ℕ} {count n : ℕ} {r : Record} {s : Scan} →
+    Counted book count → n < count → r ≡ record_at book n → Known book n s → Ready book n r s
+ready_at {book} {n = n} counted low is known =
     let here : n < record_count book = omega arith in
     record {
       here = record { within = here; few = omega arith };
       is = is ∙ sym (record_here book n here);
-      placed = placed;
-      kept = kept;
+      known = known;
     }
-
--- after record n is looked at and passed: it is well shaped, and it may stand where it stands
-pub record Passes (book : List ℕ) (n : ℕ) (roots names depths : List ℕ) : Type 0 where
-  pub none_found : find (holds book) (at_record n) ≡ none
-  pub is_shaped : well_shaped (record_of (records book) n) ≡ true
-  pub may_follow : may_follow (record_of (records book) n) (before (records book) n) ≡ true
-  pub kept : Kept book (suc n) roots names depths
-
--- none of the five holds
-none_holds : (n : ℕ) (s c f m d : Bool) → first_of n s c f m d ≡ none → (s ≡ false) × (f ≡ false)
-unfolding first_of
-none_holds n true c f m d e = absurd (some-ne-none _ e)
-none_holds n false true f m d e = absurd (some-ne-none _ e)
-none_holds n false false true m d e = absurd (some-ne-none _ e)
-none_holds n false false false m d e = (refl, refl)
-
-pub passes :
-    {book : List ℕ} {n : ℕ} {x : Fault} {roots names depths : List ℕ} →
-    Looked book n x roots names depths → x ≡ Nothing → Passes book n roots names depths
-unfolding refusal_of shape_fault follow_fault
-passes {book} {n} looked nothing =
-    let is = ap refusal_of nothing in
-    let found = sym looked.fault_is ∙ is in
-    let (shaped, follows) = none_holds n _ _ _ _ _ (sym (first_is_lem book n refl refl refl refl refl) ∙ found) in
-    record { none_found = found; is_shaped = not-false _ shaped; may_follow = not-false _ follows; kept = looked.kept is }
 
 -- the loop over the records: record n has the first fault
 pub found_here :
-    {book : List ℕ} {count n : ℕ} {x : Fault} {roots names depths : List ℕ} →
-    Looked book n x roots names depths → n < count → Passed (holds book) at_record n count → (c : code.Cause) (p : ℕ) → x ≡ At c p →
-    refusal_of x ≡ find (holds book) (flat_map at_record (up_to count))
-unfolding refusal_of
-found_here {book} {count} {n} looked less inv c p e =
-    let is = ap refusal_of e in
-    is ∙ sym (inv.1 ∙ scan_here (holds book) at_record n count _ less (sym looked.fault_is ∙ is))
+    {book : List ℕ} {count n : ℕ} {e : answered.Refusal} {s : Scan} →
+    Looked book n (Err e) s → n < count → Passed (holds book) at_record n count →
+    Err e ≡ outcome (find (holds book) (flat_map at_record (up_to count)))
+unfolding outcome
+found_here {book} {count} {n} {e} looked low inv = go (find (holds book) (at_record n)) refl looked.answer_is
+  where
+    go : (o : defined.Option Refusal) → find (holds book) (at_record n) ≡ o → Err e ≡ outcome o → Err e ≡ outcome (find (holds book) (flat_map at_record (up_to count)))
+    go none first is = absurd (err_not_ok tt is)
+    go (some x) first is = is ∙ ap outcome (sym (inv.1 ∙ scan_here (holds book) at_record n count x low first))
 
--- record n is passed, and the place behind it is p'
+-- or none, and the next one is at hand
 pub gone_on :
-    {book : List ℕ} {count n : ℕ} {r : Record} {p p' : Place} {roots₀ names₀ depths₀ roots names depths : List ℕ} →
-    Ready book n r p roots₀ names₀ depths₀ → Passes book n roots names depths → n < count → Passed (holds book) at_record n count →
-    ((bs : List Record) → Placed bs p → well_shaped r ≡ true → may_follow r bs ≡ true → Placed (following r bs) p') →
-    Passed (holds book) at_record (n + 1) count × Placed (before (records book) (n + 1)) p' × Kept book (n + 1) roots names depths
-gone_on {book} {count} {n} {r} {p' = p'} ready passes less inv next =
-    let rs = records book in
-    let shaped = subst (λ r. well_shaped r ≡ true) (sym ready.is) passes.is_shaped in
-    let follows = subst (λ r. may_follow r (before rs n) ≡ true) (sym ready.is) passes.may_follow in
-    let here : n < length rs = omega (arith, records-length book, ready.here.within) in
-    let behind = before_next rs n here ∙ ap (λ r. following r (before rs n)) (sym ready.is) in
-    let placed = subst (λ bs. Placed bs p') (sym behind) (next (before rs n) ready.placed shaped follows) in (
-      (omega arith, inv.1 ∙ scan_on (holds book) at_record n count less passes.none_found),
-      rw add-one placed,
-      rw add-one passes.kept,
-    )
+    {book : List ℕ} {count n : ℕ} {x : Unit {0}} {s : Scan} →
+    Looked book n (Ok x) s → n < count → Passed (holds book) at_record n count →
+    Passed (holds book) at_record (n + 1) count × Known book (n + 1) s
+unfolding outcome
+gone_on {book} {count} {n} {x} {s} looked low inv = (
+  (omega arith, inv.1 ∙ scan_on (holds book) at_record n count low (go (find (holds book) (at_record n)) looked.answer_is)),
+  rw (add-one n) (looked.known refl),
+)
+  where
+    go : (o : defined.Option Refusal) → Ok x ≡ outcome o → o ≡ none
+    go none is = refl
+    go (some y) is = absurd (err_not_ok x (sym is))

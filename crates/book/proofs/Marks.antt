@@ -1,25 +1,29 @@
 -- Which records are used as children, and which are left as roots.
 -- Assumes nothing.
-use Prim.Native.Nat.{ℕ, zero, suc, ◌+◌, ◌≤◌, ◌<◌}
-use mathlib.Core.Bool.{Bool, true, false, cond, not, ◌||◌, or_assoc, or_comm, or-false, or-true, true≢false}
+use Rattle.std.specs.Prelude.{Option, Some, None}
+use Rattle.std.proofs.Math.Option as defined
+use Prim.Native.Nat.{ℕ, zero, suc, ◌+◌, ◌≤◌, ◌<◌, max}
+use mathlib.Core.Bool.{Bool, true, false, cond, not, ◌||◌, or_assoc, or_comm, or-false, or-true, false≢true}
 use mathlib.Core.List.{List, [], ◌∷◌, ◌++◌, append-nil, append_assoc}
-use mathlib.Core.Option.{Option, some, none}
-use mathlib.Core.Path.{◌≡◌, refl, sym, ap, ap₂, ◌∙◌}
+use mathlib.Core.Option.{some, none}
+use mathlib.Core.Path.{◌≡◌, refl, sym, ap, ap₂, ◌∙◌, subst}
 use native.Mathlib.Decide.{ℕ_discrete}
+use native.Mathlib.Numerals.{add-one}
 use native.Mathlib.Omega.{arith}
-use lib.Dec.{leb, eqb}
+use lib.Dec.{leb, ltb, eqb, leb-suc-suc}
 use lib.ListN.{length, get_or, set, replicate, length-set, length-replicate}
 use lib.Seq.{get_or-set_same, get_or-set_other}
-use borrow.Author.Tests.{leb-false, le-leb, lt-leb, eq-eqb, ne_eqb}
+use borrow.Author.Tests.{le-leb, lt-leb, le-ltb, lt-ltb, ltb-true, ltb-false, eqb-true, eq-eqb, ne_eqb}
 use Rattle.record.specs.declared.Record.{Record}
+use Rattle.book.specs.declared.shape.Group.{Group}
+use Rattle.book.specs.declared.children.Tree.{Tree}
 use Rattle.book.specs.Lists.{All, any, from, up_to}
-use Rattle.book.specs.Shape.{Group, Field, unused, flag, bits, name, name?, string, string?, ordinal, free, child, child?}
-use Rattle.book.specs.Shape.{Row, Child, child_in, children_by, children, row_of, group_number, in_group, is_of}
-use Rattle.book.specs.Faults.{record_of, uses, used_before, used_twice, is_wrong, child_fault}
-use Rattle.book.specs.Rows.{row_at, field_number, cell_in, group_in, group_of}
-use Rattle.book.specs.Tables.{Roots, used_again, Takes}
+use Rattle.book.specs.Shape.{Row, Child, children, row_of, group_number, in_group, is_of}
+use Rattle.book.specs.Faults.{record_of, uses, used_before, used_twice, is_wrong, child_fault, deeper_than, depth_fault}
+use Rattle.book.specs.Rows.{group_from}
+use Rattle.book.specs.Tables.{IsTree, TreeAt, Trees, wrong, TakenAll}
 use Rattle.book.proofs.Lists.{any_append, any_one, any_more}
-use Rattle.book.proofs.Cells.{field_a, field_b, field_c, group_some}
+use Rattle.book.proofs.Cells.{code_same}
 
 -- one number more comes last
 from_last : (n m : ℕ) → from n (suc m) ≡ from n m ++ ((n + m) ∷ [])
@@ -36,12 +40,6 @@ unfolding used_before
 used_before_next rs n k =
     ap (any (λ m. uses k (record_of rs m))) (up_to_last n)
     ∙ any_more (λ m. uses k (record_of rs m)) (up_to n) n
-
--- before the first record there is no root
-pub roots_start : (rs : List Record) → Roots rs 0 [] (replicate 1344 0)
-unfolding used_before any from
-roots_start rs =
-    record { long = length-replicate {A = ℕ} 1344 0; groups = λ k less. absurd (omega arith); later = λ k late. refl }
 
 -- whether two numbers are the same does not depend on which is asked first
 same_number : (x y : ℕ) → eqb x y ≡ eqb y x
@@ -101,215 +99,158 @@ used_twice-append (x ∷ cs) new =
     regroup false true s t v = sym (or-true (s || t))
     regroup false false s t v = refl
 
-module _ (rs : List Record) (n : ℕ) where
-  -- one of the children `new`, behind those in `cs`, is wrong
-  abbrev wrong : List Child → List Child → Bool
-  wrong cs new = any (is_wrong rs n) new || used_again cs new
+-- a tree is there or not
+some_not_none : {t : Tree} → Some t ≡ None → ⊥
+some_not_none e = cc
 
-  wrong-append : (cs new more : List Child) → wrong cs (new ++ more) ≡ wrong cs new || wrong (cs ++ new) more
-  wrong-append cs new more =
-      ap₂ ◌||◌ (any_append (is_wrong rs n) new more) (ap₂ ◌||◌ (any_append _ new more) (used_twice-append new more))
-      ∙ regroup (any (is_wrong rs n) new) (any (is_wrong rs n) more) (among cs new) (among cs more) (used_twice new) (used_twice more) (among new more)
-      ∙ ap (λ b. wrong cs new || (any (is_wrong rs n) more || (b || used_twice more))) (sym (among-append cs new more))
-    where
-      regroup : (a b p q s t v : Bool) → (a || b) || ((p || q) || (s || t || v)) ≡ (a || (p || s)) || (b || ((q || v) || t))
-      regroup true b p q s t v = refl
-      regroup false true p q s t v = sym (or-true (p || s))
-      regroup false false true q s t v = refl
-      regroup false false false true s t v = sym (or-true s)
-      regroup false false false false true t v = refl
-      regroup false false false false false t v = or_comm t v
+-- one child is wrong, behind those in `cs`
+wrong-append : (rs : List Record) (n : ℕ) (cs new more : List Child) → wrong rs n cs (new ++ more) ≡ wrong rs n cs new || wrong rs n (cs ++ new) more
+wrong-append rs n cs new more =
+    ap₂ ◌||◌ (any_append (is_wrong rs n) new more) (ap₂ ◌||◌ (any_append _ new more) (used_twice-append new more))
+    ∙ regroup (any (is_wrong rs n) new) (any (is_wrong rs n) more) (among cs new) (among cs more) (used_twice new) (used_twice more) (among new more)
+    ∙ ap (λ b. wrong rs n cs new || (any (is_wrong rs n) more || (b || used_twice more))) (sym (among-append cs new more))
+  where
+    regroup : (a b p q s t v : Bool) → (a || b) || ((p || q) || (s || t || v)) ≡ (a || (p || s)) || (b || ((q || v) || t))
+    regroup true b p q s t v = refl
+    regroup false true p q s t v = sym (or-true (p || s))
+    regroup false false true q s t v = refl
+    regroup false false false true s t v = sym (or-true s)
+    regroup false false false false true t v = refl
+    regroup false false false false false t v = or_comm t v
 
+-- the larger of two numbers is above d where one of them is
+above_larger : (d a b : ℕ) → ltb d a || ltb d b ≡ ltb d (max a b)
+above_larger d a b = go (ltb d a) (ltb d b) refl refl
+  where
+    go : (t u : Bool) → ltb d a ≡ t → ltb d b ≡ u → t || u ≡ ltb d (max a b)
+    go true u e f = sym (lt-ltb d (max a b) (omega (arith, ltb-true d a e)))
+    go false true e f = sym (lt-ltb d (max a b) (omega (arith, ltb-true d b f)))
+    go false false e f = sym (le-ltb d (max a b) (omega (arith, ltb-false d a e, ltb-false d b f)))
+
+module _ (rs : List Record) (n : ℕ) (cs new : List Child) where
   -- behind a wrong child the others count no more
-  then_wrong :
-      {cs new : List Child} {w : Bool} {roots : List ℕ} (more : List Child) (roots' : List ℕ) →
-      w ≡ true → Takes rs n cs new w roots → Takes rs n cs (new ++ more) true roots'
-  then_wrong {cs} {new} more roots' is t = record {
-    wrong_is = ap (λ b. b || wrong (cs ++ new) more) (sym is ∙ t.wrong_is) ∙ sym (wrong-append cs new more);
-    left = λ e. absurd (true≢false e);
-  }
+  pub then_wrong : (more : List Child) → wrong rs n cs new ≡ true → wrong rs n cs (new ++ more) ≡ true
+  then_wrong more is = wrong-append rs n cs new more ∙ ap (λ b. b || wrong rs n (cs ++ new) more) is
 
   -- behind right children it is the others
-  then_right :
-      {cs new more : List Child} {v w : Bool} {roots roots' : List ℕ} →
-      v ≡ false → Takes rs n cs new v roots → Takes rs n (cs ++ new) more w roots' → Takes rs n cs (new ++ more) w roots'
-  then_right {cs} {new} {more} is t u = record {
-    wrong_is = u.wrong_is ∙ ap (λ b. b || wrong (cs ++ new) more) (sym is ∙ t.wrong_is) ∙ sym (wrong-append cs new more);
-    left = λ e. rw append_assoc at (u.left e);
+  pub then_other : (more : List Child) → wrong rs n cs new ≡ false → wrong rs n (cs ++ new) more ≡ true → wrong rs n cs (new ++ more) ≡ true
+  then_other more right is = wrong-append rs n cs new more ∙ ap (λ b. b || wrong rs n (cs ++ new) more) right ∙ is
+
+  pub then_right : {m x : ℕ} {more : List Child} {trees trees' : List (Option Tree)} → TakenAll rs n cs new m trees → TakenAll rs n (cs ++ new) more x trees' → TakenAll rs n cs (new ++ more) (max m x) trees'
+  then_right {m} {x} {more} t u = record {
+    right = wrong-append rs n cs new more ∙ ap (λ b. b || wrong rs n (cs ++ new) more) t.right ∙ u.right;
+    left = rw append_assoc at u.left;
+    deepest = λ d. any_append (λ c. deeper_than d rs c.number) new more ∙ ap₂ ◌||◌ (t.deepest d) (u.deepest d) ∙ above_larger d m x;
   }
 
--- a root less
-set_none : (roots : List ℕ) (x k : ℕ) → x < length roots → get_or (set roots x 0) k 0 ≡ cond (eqb x k) 0 (get_or roots k 0)
-set_none roots x k less = go (ℕ_discrete k x)
-  where
-    go : Dec (k ≡ x) → get_or (set roots x 0) k 0 ≡ cond (eqb x k) 0 (get_or roots k 0)
-    go (yes e) = rw (e, get_or-set_same roots x 0 0 less, eq-eqb x x refl)
-    go (no ne) = rw (get_or-set_other roots x k 0 0 ne, ne_eqb x k (λ e. ne (sym e)))
+-- a record is of one group at most
+one_group : (g h : Group) (o : defined.Option Row) → in_group (group_from g) o ≡ true → in_group (group_from h) o ≡ true → g ≡ h
+one_group g h none p q = absurd (false≢true p)
+one_group g h (some w) p q =
+    code_same g h (eqb-true (group_number (group_from g)) (group_number w.group) p ∙ sym (eqb-true (group_number (group_from h)) (group_number w.group) q))
 
--- what is no root, or is none any more
-none_twice : (a b : Bool) (m : ℕ) → cond a 0 (cond b 0 m) ≡ cond (b || a) 0 m
-none_twice true true m = refl
-none_twice true false m = refl
-none_twice false true m = refl
-none_twice false false m = refl
-
--- a record is of a group if its number is the group's
-of_group : (g : Group) (r : Record) → eqb (group_of r) (group_number g) ≡ is_of g r
-unfolding is_of cell_in
-of_group g r = go (row_of r)
-  where
-    go : (o : Option Row) → eqb (cell_in o 0) (group_number g) ≡ in_group g o
-    go none = ne_eqb 0 (group_number g) (λ e. group_some g (sym e))
-    go (some w) = same_number (group_number w.group) (group_number g)
-
--- the table does not have the number of a child's group where the record is of another one, or was used
-not_root : (u : Bool) (g : Group) (r : Record) → not (eqb (cond u 0 (group_of r)) (group_number g)) ≡ not (is_of g r) || u
-not_root true g r = ap not (ne_eqb 0 (group_number g) (λ e. group_some g (sym e))) ∙ sym (or-true (not (is_of g r)))
-not_root false g r = ap not (of_group g r) ∙ sym (or-false (not (is_of g r)))
-
--- a field names no child, or the one with its number
-pub by_child :
-    (P : List Child → Type 0) (x : ℕ) → P [] → ((g : Group) → P (record { group = g; number = x } ∷ [])) →
-    (f : Field) → P (child_in f x)
-unfolding child_in
-by_child P x p q unused = p
-by_child P x p q flag = p
-by_child P x p q bits = p
-by_child P x p q name = p
-by_child P x p q name? = p
-by_child P x p q string = p
-by_child P x p q string? = p
-by_child P x p q ordinal = p
-by_child P x p q free = p
-by_child P x p q (child g) = q g
-by_child P x p q (child? g) = go (eqb x 65535)
-  where
-    go : (b : Bool) → P (elim b [ true ↦ [] | false ↦ record { group = g; number = x } ∷ [] ])
-    go true = p
-    go false = q g
-
--- the child in a field is looked at; `group` is the number of its group, 0 for none
-module _
-    {rs : List Record} {n : ℕ} {cs : List Child} {roots : List ℕ} (u : Roots rs n cs roots) (f : Field) (x : ℕ) {group : ℕ}
-    (is : group ≡ group_in (child_in f x)) where
-  pub take_none : group ≡ 0 → Takes rs n cs (child_in f x) false roots
-  unfolding any used_twice
-  take_none missing =
-      by_child (λ l. group ≡ group_in l → Takes rs n cs l false roots) x
-      (λ _. record { wrong_is = refl; left = λ _. rw append-nil u })
-      (λ g e. absurd (group_some g (sym e ∙ missing)))
-      f is
-
-  -- what makes a child wrong, by the roots
-  by_root :
-      (g : Group) →
-      leb n x || not (eqb (get_or roots x 0) (group_number g)) ≡ wrong rs n cs (record { group = g; number = x } ∷ [])
-  unfolding any used_twice
-  by_root g =
-      go (leb n x) refl
-      ∙ sym (ap₂ ◌||◌ (any_one (is_wrong rs n) c) (or-false (among cs (c ∷ [])) ∙ any_one (λ (c : Child). any (is_number c.number) cs) c))
-    where
-      c : Child
-      c = record { group = g; number = x }
-
-      go :
-          (b : Bool) → leb n x ≡ b →
-          b || not (eqb (get_or roots x 0) (group_number g))
-          ≡ b || not (is_of g (record_of rs x)) || used_before rs n x || any (is_number x) cs
-      go true e = refl
-      go false e =
-          ap (λ m. not (eqb m (group_number g))) (u.groups x (omega (arith, leb-false n x e)))
-          ∙ not_root (used_before rs n x || any (is_number x) cs) g (record_of rs x)
-          ∙ sym (or_assoc (not (is_of g (record_of rs x))) (used_before rs n x) (any (is_number x) cs))
-
-  -- with the child the roots are one less
-  one_less :
-      (g : Group) → x < 1344 → (k : ℕ) → k < n →
-      get_or (set roots x 0) k 0
-      ≡ cond (used_before rs n k || any (is_number k) (cs ++ (record { group = g; number = x } ∷ []))) 0 (group_of (record_of rs k))
-  one_less g low k less =
-      let c : Child = record { group = g; number = x } in
-      let m : ℕ = group_of (record_of rs k) in
-      set_none roots x k (omega (arith, u.long))
-      ∙ ap (λ m. cond (eqb x k) 0 m) (u.groups k less)
-      ∙ none_twice (eqb x k) (used_before rs n k || any (is_number k) cs) m
-      ∙ ap (λ b. cond b 0 m)
-      (or_assoc (used_before rs n k) (any (is_number k) cs) (eqb x k)
-      ∙ ap (λ b. used_before rs n k || b) (sym (any_more (is_number k) cs c)))
-
-  module _ (few : n ≤ 1344) (some_is : group ≡ 0 → ⊥) where
-    taken :
-        {w : Bool} {roots' : List ℕ} → leb n x || not (eqb (get_or roots x 0) group) ≡ w →
-        (w ≡ false → (x < n) × (roots' ≡ set roots x 0)) → Takes rs n cs (child_in f x) w roots'
-    taken {w} {roots'} found left =
-        by_child (λ l. group ≡ group_in l → Takes rs n cs l w roots') x
-        (λ e. absurd (some_is e))
-        (λ g e. record {
-          wrong_is = sym found ∙ ap (λ m. leb n x || not (eqb (get_or roots x 0) m)) e ∙ by_root g;
-          left = λ z.
-              let (early, is) = left z in
-              rw is (record { long = length-set roots x 0 ∙ u.long; groups = one_less g (omega arith); later = u.later });
-        })
-        f is
-
-    pub take_late : {roots' : List ℕ} → n ≤ x → Takes rs n cs (child_in f x) true roots'
-    take_late late =
-        taken (ap (λ b. b || not (eqb (get_or roots x 0) group)) (le-leb n x late)) (λ z. absurd (true≢false z))
-
-    pub take_other : {roots' : List ℕ} → x < n → (get_or roots x 0 ≡ group → ⊥) → Takes rs n cs (child_in f x) true roots'
-    take_other early other = taken (rw (lt-leb n x early, ne_eqb _ _ other)) (λ z. absurd (true≢false z))
-
-    pub take_root : {w : Bool} → w ≡ false → x < n → get_or roots x 0 ≡ group → Takes rs n cs (child_in f x) w (set roots x 0)
-    take_root right early same = taken (rw (lt-leb n x early, eq-eqb _ _ same) (sym right)) (λ z. (early, refl))
-
--- where there is no child, none is wrong and all roots are left
-pub none_taken : {rs : List Record} {n : ℕ} {roots : List ℕ} → Roots rs n [] roots → Takes rs n [] [] false roots
+-- what makes a child wrong
+wrong_one :
+    (rs : List Record) (n : ℕ) (cs : List Child) (c : Child) →
+    wrong rs n cs (c ∷ []) ≡ leb n c.number || not (is_of c.group (record_of rs c.number)) || (used_before rs n c.number || any (is_number c.number) cs)
 unfolding any used_twice
-none_taken u = record { wrong_is = refl; left = λ _. u }
+wrong_one rs n cs c =
+    ap₂ ◌||◌ (any_one (is_wrong rs n) c) (or-false (among cs (c ∷ [])) ∙ any_one (λ (c : Child). any (is_number c.number) cs) c)
+    ∙ or_assoc (leb n c.number || not (is_of c.group (record_of rs c.number))) (used_before rs n c.number) (any (is_number c.number) cs)
 
--- the child in field f with the value x is looked at, whatever children came before
-abbrev Looked : List Record → ℕ → ℕ → ℕ → Bool → List ℕ → List ℕ → Type 0
-Looked rs n f x w roots roots' =
-    (g : Field) (cs : List Child) → f ≡ field_number g → Roots rs n cs roots → Takes rs n cs (child_in g x) w roots'
+-- a tree less
+take_at : (trees : List (Option Tree)) (x k : ℕ) → x < length trees → get_or (set trees x None) k None ≡ cond (eqb x k) None (get_or trees k None)
+take_at trees x k less = go (ℕ_discrete k x)
+  where
+    go : Dec (k ≡ x) → get_or (set trees x None) k None ≡ cond (eqb x k) None (get_or trees k None)
+    go (yes e) = rw (e, get_or-set_same trees x None None less, eq-eqb x x refl)
+    go (no ne) = rw (get_or-set_other trees x k None None ne, ne_eqb x k (λ e. ne (sym e)))
 
--- the children by a row are looked at field by field, until one is wrong
-module _
-    {rs : List Record} {n : ℕ} (r : Record) (i : ℕ) {row : Row} (here : row_at i ≡ some row) {roots roots₁ : List ℕ} {f : ℕ} {v : Bool}
-    (u : Roots rs n [] roots) (is : f ≡ cell_in (row_at i) 4) (looked : Looked rs n f r.a v roots roots₁) where
-  in_a : Takes rs n [] (child_in row.a r.a) v roots₁
-  in_a = looked row.a [] (is ∙ field_a i here) u
+module _ {rs : List Record} {n : ℕ} {cs : List Child} {trees : List (Option Tree)} (u : Trees rs n cs trees) where
+  -- no child
+  pub take_none : TakenAll rs n cs [] 0 trees
+  unfolding any used_twice
+  take_none = record { right = refl; left = rw append-nil u; deepest = λ d. sym (le-ltb d 0 (omega arith)) }
 
-  pub wrong_a : {roots' : List ℕ} → v ≡ true → Takes rs n [] (children_by r (row_at i)) true roots'
-  wrong_a wrong = rw here (then_wrong rs n _ _ refl (then_wrong rs n _ roots₁ wrong in_a))
+  module _ (g : Group) (x : ℕ) where
+    abbrev c : Child
+    c = record { group = group_from g; number = x }
 
-  module _
-      (right : v ≡ false) {roots₂ : List ℕ} {g : ℕ} {w : Bool}
-      (is_b : g ≡ cell_in (row_at i) 5) (looked_b : Looked rs n g r.b w roots₁ roots₂) where
-    in_b : Takes rs n [] (child_in row.a r.a ++ child_in row.b r.b) w roots₂
-    in_b = then_right rs n right in_a (looked_b row.b _ (is_b ∙ field_b i here) (in_a.left right))
+    -- a child that is not earlier
+    pub take_late : n ≤ x → wrong rs n cs (c ∷ []) ≡ true
+    take_late late = wrong_one rs n cs c ∙ rw (le-leb n x late) refl
 
-    pub wrong_b : {roots' : List ℕ} → w ≡ true → Takes rs n [] (children_by r (row_at i)) true roots'
-    wrong_b wrong = rw here (then_wrong rs n _ _ wrong in_b)
+    module _ (early : x < n) where
+      abbrev used : Bool
+      used = used_before rs n x || any (is_number x) cs
 
-    pub in_c :
-        w ≡ false → {roots₃ : List ℕ} {h : ℕ} {x y : Bool} → h ≡ cell_in (row_at i) 6 → Looked rs n h r.c x roots₂ roots₃ → x ≡ y →
-        Takes rs n [] (children_by r (row_at i)) y roots₃
-    in_c right_b is_c looked_c same =
-        rw (here, ← same) (then_right rs n right_b in_b (looked_c row.c _ (is_c ∙ field_c i here) (in_b.left right_b)))
+      there : TreeAt rs x used (get_or trees x None)
+      there = u.trees_are x early
+
+      found : {b : Bool} → not (is_of (group_from g) (record_of rs x)) || used ≡ b → wrong rs n cs (c ∷ []) ≡ b
+      found {b} e = wrong_one rs n cs c ∙ ap (λ t. t || not (is_of (group_from g) (record_of rs x)) || used) (lt-leb n x early) ∙ e
+
+      -- one that is a child already
+      pub take_used : get_or trees x None ≡ None → wrong rs n cs (c ∷ []) ≡ true
+      take_used is = found (go used refl (subst (TreeAt rs x used) is there))
+        where
+          go : (b : Bool) → used ≡ b → TreeAt rs x b None → not (is_of (group_from g) (record_of rs x)) || used ≡ true
+          go true t h = ap (λ b. not (is_of (group_from g) (record_of rs x)) || b) t ∙ or-true (not (is_of (group_from g) (record_of rs x)))
+          go false t h = absurd h
+
+      -- one of another group
+      pub take_other : (t : Tree) → get_or trees x None ≡ Some t → (t.group ≡ g → ⊥) → wrong rs n cs (c ∷ []) ≡ true
+      unfolding is_of
+      take_other t is other = found (go used refl (subst (TreeAt rs x used) is there))
+        where
+          of : IsTree rs x t → (b : Bool) → is_of (group_from g) (record_of rs x) ≡ b → not b || used ≡ true
+          of h true p = absurd (other (one_group t.group g (row_of (record_of rs x)) h.of_group p))
+          of h false p = refl
+
+          go : (b : Bool) → used ≡ b → TreeAt rs x b (Some t) → not (is_of (group_from g) (record_of rs x)) || used ≡ true
+          go true p h = absurd (some_not_none h)
+          go false p h = of h (is_of (group_from g) (record_of rs x)) refl
+
+      left : length trees ≡ 1344 → n ≤ 1344 → (k : ℕ) → k < n → TreeAt rs k (used_before rs n k || any (is_number k) (cs ++ (c ∷ []))) (get_or (set trees x None) k None)
+      left long few k less =
+          rw (take_at trees x k (omega arith), any_more (is_number k) cs c)
+          (go (eqb x k))
+        where
+          go : (b : Bool) → TreeAt rs k (used_before rs n k || (any (is_number k) cs || b)) (cond b None (get_or trees k None))
+          go true = subst (λ b. TreeAt rs k b None) (sym (ap (λ b. used_before rs n k || b) (or-true (any (is_number k) cs)) ∙ or-true (used_before rs n k))) refl
+          go false = subst (λ b. TreeAt rs k (used_before rs n k || b) (get_or trees k None)) (sym (or-false (any (is_number k) cs))) (u.trees_are k less)
+
+      -- and one that is right
+      pub take_right : n ≤ 1344 → (t : Tree) → get_or trees x None ≡ Some t → t.group ≡ g → TakenAll rs n cs (c ∷ []) t.levels (set trees x None)
+      take_right few t is same = go used refl (subst (TreeAt rs x used) is there)
+        where
+          go : (b : Bool) → used ≡ b → TreeAt rs x b (Some t) → TakenAll rs n cs (c ∷ []) t.levels (set trees x None)
+          go true p h = absurd (some_not_none h)
+          go false p h = record {
+            right = found (rw (p, subst (λ (g : Group). is_of (group_from g) (record_of rs x) ≡ true) same h.of_group) refl);
+            left = record { long = length-set trees x None ∙ u.long; trees_are = left u.long few; later = u.later };
+            deepest = λ d. any_one (λ c. deeper_than d rs c.number) c ∙ h.levels_are d;
+          }
+
+-- before the first record there is no tree
+pub trees_start : (rs : List Record) → Trees rs 0 [] (replicate 1344 None)
+unfolding used_before any from
+trees_start rs =
+    record { long = length-replicate {A = Option Tree} 1344 None; trees_are = λ k less. absurd (omega arith); later = λ k late. refl }
 
 -- no child of n is behind it
-none_later : (n k : ℕ) → n ≤ k → (cs : List Child) → All (λ c. c.number < n) cs → any (is_number k) cs ≡ false
+none_later : (n k : ℕ) → n ≤ k → (cs : List Child) → All (λ (c : Child). c.number < n) cs → any (is_number k) cs ≡ false
 unfolding any
 none_later n k late [] p = refl
 none_later n k late (c ∷ cs) p = rw (ne_eqb c.number k (λ e. omega (arith, p.0)), any) (none_later n k late cs p.1)
 
--- all the children of n are roots no more, and n is one
-pub roots_next :
-    (rs : List Record) (n : ℕ) (roots : List ℕ) {group : ℕ} → n < 1344 → All (λ c. c.number < n) (children (record_of rs n)) →
-    group ≡ group_of (record_of rs n) → Roots rs n (children (record_of rs n)) roots → Roots rs (suc n) [] (set roots n group)
+-- the trees at the children of n are taken away, and there is one at n
+pub trees_next :
+    (rs : List Record) (n : ℕ) (trees : List (Option Tree)) (t : Tree) → n < 1344 → All (λ (c : Child). c.number < n) (children (record_of rs n)) →
+    IsTree rs n t → Trees rs n (children (record_of rs n)) trees → Trees rs (suc n) [] (set trees n (Some t))
 unfolding uses any
-roots_next rs n roots {group} low earlier is u =
-    record { long = length-set roots n group ∙ u.long; groups = λ k less. groups k less (ℕ_discrete k n); later = later }
+trees_next rs n trees t low earlier is u =
+    record { long = length-set trees n (Some t) ∙ u.long; trees_are = λ k less. trees_are k less (ℕ_discrete k n); later = later }
   where
     late : (k : ℕ) → n ≤ k → used_before rs (suc n) k ≡ false
     late k low = used_before_next rs n k ∙ ap₂ ◌||◌ (u.later k low) (none_later n k low (children (record_of rs n)) earlier)
@@ -317,19 +258,34 @@ roots_next rs n roots {group} low earlier is u =
     later : (k : ℕ) → suc n ≤ k → used_before rs (suc n) k ≡ false
     later k low = late k (omega arith)
 
-    groups :
+    trees_are :
         (k : ℕ) → k < suc n → Dec (k ≡ n) →
-        get_or (set roots n group) k 0 ≡ cond (used_before rs (suc n) k || false) 0 (group_of (record_of rs k))
-    groups k less (yes e) =
-        rw (e, get_or-set_same roots n group 0 (omega (arith, u.long)), late n (omega arith)) is
-    groups k less (no ne) =
-        get_or-set_other roots n k group 0 ne
-        ∙ u.groups k (omega arith)
-        ∙ ap (λ b. cond b 0 (group_of (record_of rs k))) (sym (used_before_next rs n k) ∙ sym (or-false (used_before rs (suc n) k)))
+        TreeAt rs k (used_before rs (suc n) k || false) (get_or (set trees n (Some t)) k None)
+    trees_are k less (yes e) =
+        rw (e, get_or-set_same trees n (Some t) None (omega (arith, u.long)), late n (omega arith)) is
+    trees_are k less (no ne) =
+        rw (get_or-set_other trees n k (Some t) None ne, or-false (used_before rs (suc n) k), used_before_next rs n k)
+        (u.trees_are k (omega arith))
 
 -- what is found of all children of n is cause 5
-pub child_fault_lem : (rs : List Record) (n : ℕ) (w : Bool) (u : List ℕ) → Takes rs n [] (children (record_of rs n)) w u → w ≡ child_fault rs n
+pub child_fault_lem : (rs : List Record) (n : ℕ) → wrong rs n [] (children (record_of rs n)) ≡ child_fault rs n
 unfolding child_fault
-child_fault_lem rs n w u t =
+child_fault_lem rs n =
     let cs : List Child = children (record_of rs n) in
-    t.wrong_is ∙ ap (λ b. any (is_wrong rs n) cs || (b || used_twice cs)) (among_none cs)
+    ap (λ b. any (is_wrong rs n) cs || (b || used_twice cs)) (among_none cs)
+
+-- below one more, or at most
+below_more : (d m : ℕ) → ltb d (m + 1) ≡ leb d m
+below_more d m = rw (add-one m) (leb-suc-suc d m)
+
+-- the tree at n has one level more than the deepest at its children, which has m
+module _ (rs : List Record) (n m : ℕ) (deepest : (d : ℕ) → any (λ c. deeper_than d rs c.number) (children (record_of rs n)) ≡ ltb d m) where
+  pub deeper_at : (d : ℕ) → deeper_than d rs n ≡ ltb d (m + 1)
+  unfolding deeper_than
+  deeper_at zero = sym (lt-ltb 0 (m + 1) (omega arith))
+  deeper_at (suc d) = deepest d ∙ sym (below_more (suc d) m)
+
+  -- cause 8 by the most levels among the children
+  pub depth_fault_lem : depth_fault rs n ≡ cond (ltb (record_of rs n).kind 20) (leb 64 m) (ltb 64 m)
+  unfolding depth_fault
+  depth_fault_lem = rw (deeper_at 64, deepest 64, below_more 64 m)

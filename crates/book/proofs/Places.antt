@@ -1,25 +1,31 @@
 -- What the follow rule knows of the records before.
 -- Assumes nothing.
 use Prim.Native.Nat.{ℕ, suc, ◌≤◌, ◌<◌}
-use mathlib.Core.Bool.{Bool, true, false, cond, not, ◌&&◌, ◌||◌, and-true, or_comm}
+use mathlib.Core.Bool.{Bool, true, false, cond, not, ◌&&◌, ◌||◌, and-true}
 use mathlib.Core.List.{List, [], ◌∷◌, ◌++◌, reverse, reverse-append}
 use mathlib.Core.Option.{Option, some, none}
 use mathlib.Core.Path.{◌≡◌, refl, sym, ap, ◌∙◌, subst}
 use native.Mathlib.Omega.{arith}
-use lib.Dec.{T, ltb, eqb, eqb-zero-suc, ltb→lt}
-use lib.ListN.{length, take, drop}
+use lib.Dec.{T, leb, ltb, eqb, eqb-zero-suc, ltb→lt}
+use lib.ListN.{length, take, drop, get_or}
 use lib.Seq.{take-suc}
-use borrow.Author.Tests.{leb-true, eqb-true, eqb-false, not-false, lt-ltb, le-ltb, le-leb, eq-eqb, ne_eqb}
+use borrow.Author.Tests.{leb-false, ltb-true, ltb-false, lt-leb, eqb-true, eqb-false, not-false, lt-ltb, le-ltb, le-leb, eq-eqb, ne_eqb}
 use Rattle.record.specs.declared.Record.{Record}
-use Rattle.book.specs.declared.follow.Place.{Place}
+use Rattle.record.specs.declared.kind.Kind.{Kind}
+use Rattle.record.specs.declared.kind.Kind.TheVariants.{Message, Tombstone}
+use Rattle.record.specs.Kind.{code_of}
+use Rattle.book.specs.declared.shape.Row as code_row
+use Rattle.book.specs.declared.follow_table.TheConstants.{FOLLOW}
 use Rattle.book.specs.Lists.{All, any, find, keep}
 use Rattle.book.specs.Shape.{Row, table, well_shaped}
 use Rattle.book.specs.Faults.{record_of, before, is_kind, is_declaration, is_union_tombstone}
 use Rattle.book.specs.Faults.{first_is, follows, under, variant_open, fields_go_here, may_follow}
-use Rattle.book.specs.Follow.{is_one_of, behind, follow_of, FollowTable}
-use Rattle.book.specs.Tables.{Placed, kind_or_0, following, has_room, open_behind}
-use Rattle.book.proofs.Lists.{itself}
-use Rattle.book.proofs.Filled.{tab, table_at}
+use Rattle.book.specs.Follow.{is_one_of, behind, follow_of}
+use Rattle.book.specs.Tables.{Place, Placed, kind_or_0, following, has_room, open_behind, declaration_behind, variant_behind}
+use Rattle.book.specs.Rows.{IsRow, is_outside_group}
+use Rattle.book.proofs.Lists.{itself, either}
+use Rattle.book.proofs.Cells.{kind_is, shaped, outside_is}
+use Rattle.book.proofs.Filled.{table_at}
 use Rattle.book.proofs.Members.{keep_mem, any_mem, of_all}
 use Rattle.book.proofs.Trees.{not_so, both_so, none_passes, shaped_row, with_kind}
 
@@ -56,9 +62,10 @@ before_next rs n less =
     last true = refl
     last false = refl
 
--- the code's table converts to the one that the rule fills
-pub follow_is : FollowTable (tab (λ b. tab (follow_of b) 0 37) 0 37)
-follow_is = record { cells = table_at follow_of false 37 37 }
+-- the code's table is the rule, cell by cell
+pub follow_is : (b k : ℕ) → b < 37 → k < 37 → get_or (get_or FOLLOW b []) k false ≡ follow_of b k
+unfolding any behind follow_of
+follow_is b k row column = table_at follow_of false 37 37 b k row column
 
 -- a number that is one of some
 pub one_of : (P : ℕ → Type 0) (l : List ℕ) (k : ℕ) → is_one_of l k ≡ true → All P l → P k
@@ -111,11 +118,6 @@ stands-behind r shaped high =
     by_row (λ r. follow_of r.kind 20 ≡ true) r shaped high
     (none_passes {P = ByRow (λ r. follow_of r.kind 20 ≡ true) r} (λ w. not (follow_of w.kind 20)) (λ w e _. not-false _ e) tall refl)
 
--- kinds are below 37
-pub kind_below : (b : ℕ) → follow_of b 20 ≡ true → b < 37
-unfolding follow_of behind any
-kind_below b e = one_of (λ k. k < 37) (behind 20) b e (omega arith)
-
 -- one Boolean that another brings with it
 with_it : (a b : Bool) → (b ≡ true → a ≡ true) → a && b ≡ b
 with_it true b f = refl
@@ -139,42 +141,6 @@ room_in r bs =
 -- where fields go
 abbrev for_fields : Place → Bool
 for_fields p = eqb p.declaration 20 || eqb p.declaration 21 && p.variant
-
--- room by the record at hand: for what goes where fields go, and for the rest
-module _ (r : Record) (p : Place) where
-  field_room_only : is_kind 31 r || is_kind 32 r && eqb r.sub 0 ≡ true → is_union_tombstone r || is_kind 33 r ≡ false
-  field_room_only e = go (is_kind 31 r) refl e
-    where
-      go : (a : Bool) → is_kind 31 r ≡ a → a || is_kind 32 r && eqb r.sub 0 ≡ true → is_union_tombstone r || is_kind 33 r ≡ false
-      go true t e = rw (eqb-true r.kind 31 t) refl
-      go false t e = let (x, y) = both_so _ _ e in rw (eqb-true r.kind 32 x, eqb-true r.sub 0 y) refl
-
-  pub field_room : is_kind 31 r || is_kind 32 r && eqb r.sub 0 ≡ true → for_fields p ≡ has_room r p
-  field_room e = rw (e, field_room_only e) (sym (and-true _))
-
-  pub other_room :
-      is_kind 31 r || is_kind 32 r && eqb r.sub 0 ≡ false → (b : Bool) → is_kind 33 r || is_union_tombstone r ≡ b →
-      not b || eqb p.declaration 21 ≡ has_room r p
-  other_room e b t = rw (e, or_comm (is_union_tombstone r) (is_kind 33 r), t)
-
--- whether a variant is open: behind a declaration, behind a tombstone, and behind what is neither of these nor a variant
-module _ (r : Record) (v : Bool) where
-  pub open_behind_declaration : 20 ≤ r.kind → r.kind ≤ 25 → false ≡ open_behind r v
-  open_behind_declaration low high = rw (le-leb 20 r.kind low, le-leb r.kind 25 high, ne_eqb r.kind 33 (λ e. omega arith))
-
-  pub open_behind_tombstone : r.kind ≡ 32 → not (eqb r.sub 1) && v ≡ open_behind r v
-  open_behind_tombstone e = rw e (go (eqb r.sub 1))
-    where
-      go : (b : Bool) → not b && v ≡ cond b false v
-      go true = refl
-      go false = refl
-
-  pub open_behind_other :
-      (20 ≤ r.kind → r.kind ≤ 25 → ⊥) → (r.kind ≡ 33 → ⊥) → (r.kind ≡ 32 → ⊥) → v ≡ open_behind r v
-  open_behind_other never other third = rw (not_so (is_declaration r) both, ne_eqb r.kind 33 other, ne_eqb r.kind 32 third)
-    where
-      both : is_declaration r ≡ true → ⊥
-      both t = let (low, high) = both_so _ _ t in never (leb-true _ _ low) (leb-true _ _ high)
 
 -- what a place tells of the records before
 module _ (bs : List Record) (p : Place) (h : Placed bs p) where
@@ -219,7 +185,7 @@ module _ (bs : List Record) (p : Place) (h : Placed bs p) where
           in_union (rw (eq-eqb r.sub 1 one) at union)
 
   -- what the kinds and the room tell is the follow rule: one line for each row of the items
-  pub may_follow_lem :
+  may_follow_lem :
       (r : Record) → well_shaped r ≡ true → 16 < r.kind → follow_of p.before r.kind && has_room r p ≡ may_follow r bs
   unfolding may_follow follow_of behind table any
   may_follow_lem r shaped high =
@@ -253,7 +219,7 @@ module _ (bs : List Record) (p : Place) (h : Placed bs p) where
       & tt)
 
   -- behind a record that may stand there
-  pub placed_next :
+  placed_next :
       (r : Record) (d : ℕ) (v : Bool) → well_shaped r ≡ true → 16 < r.kind → may_follow r bs ≡ true →
       d ≡ cond (is_declaration r) r.kind p.declaration → v ≡ open_behind r p.variant →
       Placed (following r bs) (record { before = r.kind; declaration = d; variant = v })
@@ -286,3 +252,79 @@ placed_same r bs p low h = rw (le-ltb 16 r.kind low) h
 pub placed_start : Placed [] (record { before = 0; declaration = 0; variant = false })
 unfolding first_is find any follow_of behind
 placed_start = record { before_is = refl; declaration_is = refl; variant_is = refl; known = refl; fields = λ e. e }
+
+-- the table has no kinds from 37 up
+pub no_kind : (b k : ℕ) → 37 ≤ k → false ≡ follow_of b k
+unfolding follow_of behind any
+no_kind b k high =
+    rw (le-leb 20 k (omega arith), lt-leb k 25 (omega arith), le-leb 31 k (omega arith), lt-leb k 33 (omega arith), other 30 (omega arith), other 34 (omega arith), other 35 (omega arith), other 36 (omega arith))
+    refl
+  where
+    other : (n : ℕ) → n < 37 → eqb k n ≡ false
+    other n low = ne_eqb k n (λ e. omega arith)
+
+behind_few : (k : ℕ) → All (λ b. b < 37) (behind k)
+unfolding behind any
+behind_few k =
+    either P (leb 20 k && leb k 25) (few (0 ∷ 20 ∷ 21 ∷ 22 ∷ 23 ∷ 24 ∷ 25 ∷ 30 ∷ 31 ∷ 32 ∷ 33 ∷ 34 ∷ 35 ∷ 36 ∷ []) refl)
+    (either P (leb 31 k && leb k 33) (few (20 ∷ 21 ∷ 31 ∷ 32 ∷ 33 ∷ 34 ∷ 35 ∷ 36 ∷ []) refl)
+    (either P (eqb k 30) (few (23 ∷ 30 ∷ []) refl)
+    (either P (eqb k 34) (few (20 ∷ 31 ∷ 34 ∷ 35 ∷ []) refl) (either P (eqb k 35) (few (34 ∷ 35 ∷ []) refl) (either P (eqb k 36) (few (32 ∷ 36 ∷ []) refl) tt)))))
+  where
+    P : List ℕ → Type 0
+    P = All (λ b. b < 37)
+
+    few : (l : List ℕ) → any (leb 37) l ≡ false → P l
+    few l e = none_passes (leb 37) (λ b e. leb-false 37 b e) l e
+
+pub no_kind_before : (b k : ℕ) → 37 ≤ b → false ≡ follow_of b k
+unfolding follow_of
+no_kind_before b k high =
+    sym (not_so (is_one_of (behind k) b) (λ e. let low = one_of (λ b. b < 37) (behind k) b e (behind_few k) in omega arith))
+
+-- a kind by its number, behind a record
+declaration_is : (k : Kind) (r : Record) (d : ℕ) → r.kind ≡ code_of k → declaration_behind k d ≡ cond (is_declaration r) r.kind d
+declaration_is k r d is = subst (λ n. declaration_behind k d ≡ cond (is_declaration (with_kind n r)) n d) (sym is) (by k)
+  where
+    by : (k : Kind) → declaration_behind k d ≡ cond (is_declaration (with_kind (code_of k) r)) (code_of k) d
+    by Message = refl
+    by _ = refl
+
+variant_is : (k : Kind) (r : Record) (v : Bool) → r.kind ≡ code_of k → variant_behind k r.sub v ≡ open_behind r v
+variant_is k r v is = subst (λ n. variant_behind k r.sub v ≡ open_behind (with_kind n r) v) (sym is) (by k)
+  where
+    tombstone : (b : Bool) → not b && v ≡ cond b false v
+    tombstone true = refl
+    tombstone false = refl
+
+    by : (k : Kind) → variant_behind k r.sub v ≡ open_behind (with_kind (code_of k) r) v
+    by Tombstone = tombstone (eqb r.sub 1)
+    by _ = refl
+
+-- of a record whose row is found
+module _ {r : Record} {w : code_row.Row} (is : IsRow r w) where
+  passed_over : is_outside_group w.group ≡ false → r.kind ≤ 16
+  passed_over e = ltb-false 16 r.kind (sym (outside_is is) ∙ e)
+
+  looked_at : is_outside_group w.group ≡ true → 16 < r.kind
+  looked_at e = ltb-true 16 r.kind (sym (outside_is is) ∙ e)
+
+  -- what is passed over may stand anywhere
+  pub anywhere : is_outside_group w.group ≡ false → (bs : List Record) → may_follow r bs ≡ true
+  anywhere e bs = not_item r bs (omega (arith, passed_over e))
+
+  pub by_kinds : is_outside_group w.group ≡ true → (bs : List Record) (p : Place) → Placed bs p → follow_of p.before (code_of w.kind) && has_room r p ≡ may_follow r bs
+  by_kinds e bs p h =
+      ap (λ k. follow_of p.before k && has_room r p) (sym (kind_is is))
+      ∙ may_follow_lem bs p h r (shaped is) (looked_at e)
+
+  pub passed_on : is_outside_group w.group ≡ false → (bs : List Record) (p : Place) → Placed bs p → Placed (following r bs) p
+  passed_on e bs p h = placed_same r bs p (passed_over e) h
+
+  pub gone_on :
+      is_outside_group w.group ≡ true → (bs : List Record) (p : Place) → Placed bs p → may_follow r bs ≡ true →
+      Placed (following r bs) (record { before = code_of w.kind; declaration = declaration_behind w.kind p.declaration; variant = variant_behind w.kind r.sub p.variant })
+  gone_on e bs p h may =
+      subst (λ k. Placed (following r bs) (record { before = k; declaration = declaration_behind w.kind p.declaration; variant = variant_behind w.kind r.sub p.variant })) (kind_is is)
+      (placed_next bs p h r _ _ (shaped is) (looked_at e) may
+      (declaration_is w.kind r p.declaration (kind_is is)) (variant_is w.kind r p.variant (kind_is is)))

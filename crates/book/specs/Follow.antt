@@ -1,6 +1,6 @@
 -- Which kinds stand behind which, as far as the kind of the record before tells: what the code's table holds.
 -- Assumes nothing.
-use Rattle.std.specs.Prelude.{ℕ, ◌<◌, Bool, false, cond, ◌&&◌, List, [], ◌∷◌, ◌≡◌, leb, eqb, get_or}
+use Rattle.std.specs.Prelude.{ℕ, Bool, cond, ◌&&◌, List, [], ◌∷◌, leb, eqb}
 use Rattle.book.specs.Lists.{any}
 
 -- a number is one of some
@@ -14,7 +14,7 @@ behind k =
     cond (leb 20 k && leb k 25) (0 ∷ 20 ∷ 21 ∷ 22 ∷ 23 ∷ 24 ∷ 25 ∷ 30 ∷ 31 ∷ 32 ∷ 33 ∷ 34 ∷ 35 ∷ 36 ∷ [])
     -- a field, a tombstone, a variant: behind a message, a union, and what is in them
     (cond (leb 31 k && leb k 33) (20 ∷ 21 ∷ 31 ∷ 32 ∷ 33 ∷ 34 ∷ 35 ∷ 36 ∷ [])
-    -- the others: as document 01 says
+    -- the others: each by a list of its own
     (cond (eqb k 30) (23 ∷ 30 ∷ [])
     (cond (eqb k 34) (20 ∷ 31 ∷ 34 ∷ 35 ∷ [])
     (cond (eqb k 35) (34 ∷ 35 ∷ []) (cond (eqb k 36) (32 ∷ 36 ∷ []) [])))))
@@ -22,7 +22,3 @@ behind k =
 -- kind k may stand behind kind b
 unfoldable pub follow_of : ℕ → ℕ → Bool
 follow_of b k = is_one_of (behind k) b
-
--- the code's table is the rule, cell by cell: rows by the kind before, columns by the kind at hand
-pub record FollowTable (t : List (List Bool)) : Type 0 where
-  pub cells : (b k : ℕ) → b < 37 → k < 37 → get_or (get_or t b []) k false ≡ follow_of b k

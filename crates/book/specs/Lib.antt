@@ -10,4 +10,5 @@ pub mod Answer
 pub mod Rows
 pub mod Follow
 pub mod Tables
-pub mod Ahead
+pub mod Accepted
+pub mod Noted

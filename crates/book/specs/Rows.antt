@@ -1,73 +1,108 @@
--- How the code's table of shapes writes the rows: by numbers.
+-- How the code's table of shapes is the definition's.
 -- Assumes nothing.
-use Rattle.std.specs.Prelude.{ℕ, suc, ◌+◌, ◌-◌, ◌^◌, ◌<◌, true, false, List, [], ◌∷◌, ◌≡◌, eqb, get_or}
-use Rattle.std.proofs.Math.Option.{Option, some, none}
+use Rattle.std.specs.Prelude.{ℕ, suc, ◌-◌, ◌^◌, Bool, true, false, List, [], ◌∷◌, ◌&&◌, ◌≡◌, eqb, leb, Option, Some, None, Result, Ok, Err}
+use Rattle.std.specs.Borrow.{Bor}
+use Rattle.std.proofs.Math.Option as defined
+use Rattle.std.proofs.Math.Option.{some, none}
 use Rattle.record.specs.declared.Record.{Record}
-use Rattle.book.specs.Lists.{at}
+use Rattle.record.specs.Kind.{code_of}
+use Rattle.record.specs.declared.refusal.Refusal as answered
+use Rattle.record.specs.declared.refusal.Cause.TheVariants.{Shape}
+use Rattle.book.specs.declared.shape.Group as code_group
+use Rattle.book.specs.declared.shape.Group.TheVariants.{«Type», Constant, Constraint, Operand, Declaration, Item}
+use Rattle.book.specs.declared.shape.Field as code_field
+use Rattle.book.specs.declared.shape.Field.TheVariants.{Unused, Flag, Bits, Name, MaybeName, String, MaybeString, Ordinal, Free, Child, MaybeChild}
+use Rattle.book.specs.declared.shape.Row as code_row
+use Rattle.book.specs.Shape.{Group, type, constant, constraint, operand, declaration, item}
 use Rattle.book.specs.Shape.{Field, unused, flag, bits, name, name?, string, string?, ordinal, free, child, child?}
-use Rattle.book.specs.Shape.{Row, Child, table, row_of, fits, group_number}
+use Rattle.book.specs.Shape as shapes
+use Rattle.book.specs.Shape.{Row, table, row_of, fits, group_number}
 
--- row w of the table
-unfoldable pub row_at : ℕ → Option Row
-row_at w = at table w
+-- the groups, the fields and the rows of the code
+abbrev pub group_from : code_group.Group → Group
+group_from «Type» = type
+group_from Constant = constant
+group_from Constraint = constraint
+group_from Operand = operand
+group_from Declaration = declaration
+group_from Item = item
+
+abbrev pub field_from : code_field.Field → Field
+field_from Unused = unused
+field_from Flag = flag
+field_from Bits = bits
+field_from Name = name
+field_from MaybeName = name?
+field_from String = string
+field_from MaybeString = string?
+field_from Ordinal = ordinal
+field_from Free = free
+field_from (Child g) = child (group_from g)
+field_from (MaybeChild g) = child? (group_from g)
+
+abbrev pub row_from : code_row.Row → Row
+row_from w =
+    record {
+      group = group_from w.group;
+      kind = code_of w.kind;
+      low = w.low;
+      high = w.high;
+      a = field_from w.a;
+      b = field_from w.b;
+      c = field_from w.c;
+      v = field_from w.v;
+    }
+
+-- the row that the code finds
+abbrev pub row_in : Option (Bor code_row.Row) → defined.Option Row
+row_in None = none
+row_in (Some w) = some (row_from w.now)
 
 -- the number of the first row of a kind, and of all rows where there is none
 unfoldable pub first_row : ℕ → List Row → ℕ
 first_row k [] = 0
 first_row k (w ∷ ws) = elim (eqb k w.kind) [ true ↦ 0 | false ↦ suc (first_row k ws) ]
 
--- fields by number
-unfoldable pub field_number : Field → ℕ
-field_number unused = 0
-field_number flag = 1
-field_number bits = 2
-field_number name = 3
-field_number name? = 4
-field_number string = 5
-field_number string? = 6
-field_number ordinal = 7
-field_number free = 8
-field_number (child g) = 10 + group_number g
-field_number (child? g) = 20 + group_number g
+-- the last value that a field may hold, apart from the one that stands for no name; 2^64 - 1 where any will do
+abbrev pub last_in : Field → ℕ
+last_in unused = 0
+last_in flag = 1
+last_in bits = 255
+last_in name = 4095
+last_in name? = 4095
+last_in string = 65534
+last_in string? = 2 ^ 64 - 1
+last_in ordinal = 2 ^ 32 - 1
+last_in free = 2 ^ 64 - 1
+last_in (child g) = 2 ^ 64 - 1
+last_in (child? g) = 2 ^ 64 - 1
 
--- the last values that fields 0 to 7 may hold, apart from the one that stands for no name; 2^64 - 1 where any will do
-abbrev pub lasts : List ℕ
-lasts = 0 ∷ 1 ∷ 255 ∷ 4095 ∷ 4095 ∷ 65534 ∷ (2 ^ 64 - 1) ∷ (2 ^ 32 - 1) ∷ []
+-- the value that stands for no name, where a field may hold it besides
+abbrev pub none_in : Field → ℕ → Bool
+none_in name? x = eqb x 65535
+none_in _ x = false
 
--- the last value that a field may hold, by its number
-abbrev pub last_in : ℕ → ℕ
-last_in f = get_or lasts f (2 ^ 64 - 1)
+-- the child with a number, if a field names one
+abbrev pub children_of : Option code_group.Group → ℕ → List shapes.Child
+children_of None x = []
+children_of (Some g) x = record { group = group_from g; number = x } ∷ []
 
--- a row by its numbers
-abbrev pub numbers_of : Row → List ℕ
-numbers_of w =
-    group_number w.group ∷ w.kind ∷ w.low ∷ w.high
-    ∷ field_number w.a ∷ field_number w.b ∷ field_number w.c ∷ field_number w.v ∷ []
+-- a primitive type with nothing in its fields
+abbrev pub is_plain : Record → Bool
+is_plain r = eqb r.kind 1 && leb r.sub 13 && eqb r.a 0 && eqb r.b 0 && eqb r.c 0 && eqb r.v 0
 
--- cell i of a row of the code's table: group, kind, first and last sub, and what a, b, c and v may hold
-unfoldable pub cell_in : Option Row → ℕ → ℕ
-cell_in none i = 0
-cell_in (some w) i = get_or (numbers_of w) i 0
+-- declarations and items are no part of a tree
+abbrev pub is_outside_group : code_group.Group → Bool
+is_outside_group Declaration = true
+is_outside_group Item = true
+is_outside_group _ = false
 
--- the number of the group of a record, 0 where it has no row
-abbrev pub group_of : Record → ℕ
-group_of r = cell_in (row_of r) 0
+-- a record, and the row that is found for it
+pub record IsRow (r : Record) (w : code_row.Row) : Type 0 where
+  pub row_is : row_of r ≡ some (row_from w)
+  pub fitting : fits r (row_of r) ≡ true
 
--- the code's table has the rows by number, cell by cell
-pub record ShapeTable (t : List (List ℕ)) : Type 0 where
-  pub cells : (i k : ℕ) → i < 38 → get_or (get_or t i []) k 0 ≡ cell_in (row_at i) k
-
--- the code's list of first rows is the rule, kind by kind
-pub record FirstRows (l : List ℕ) : Type 0 where
-  pub rows : (k : ℕ) → k < 37 → get_or l k 0 ≡ first_row k table
-
--- a primitive type with nothing in its fields: kind 1, and well shaped by the first row
-pub record Primitive (r : Record) : Type 0 where
-  pub kind_is : r.kind ≡ 1
-  pub found : row_at 0 ≡ row_of r
-  pub fitting : fits r (row_at 0) ≡ true
-
--- the group of the first of some children by number, 0 where there is none
-abbrev pub group_in : List Child → ℕ
-group_in [] = 0
-group_in (c ∷ cs) = group_number c.group
+-- the row of record n, which is r, or cause 4
+abbrev pub Shaped : ℕ → Record → Result (Bor code_row.Row) answered.Refusal → Type 0
+Shaped n r (Ok w) = IsRow r w.now
+Shaped n r (Err e) = (fits r (row_of r) ≡ false) × (e ≡ record { cause = Shape; place = n })

@@ -1,19 +1,28 @@
 -- What the working tables of the reading hold when record n is looked at.
 -- Assumes nothing.
-use Rattle.std.specs.Prelude.{ℕ, zero, suc, ◌/◌, ◌%◌, ◌^◌, ◌≤◌, ◌<◌, max, Bool, true, false, cond, not, ◌&&◌, ◌||◌, List, [], ◌∷◌, ◌++◌, ◌≡◌, ltb, eqb, length, take, get_or}
-use Rattle.std.proofs.Math.Option.{Option, some, none}
+use Rattle.std.specs.Prelude.{ℕ, zero, suc, ◌+◌, ◌/◌, ◌%◌, ◌^◌, ◌≤◌, ◌<◌, Bool, true, false, cond, not, ◌&&◌, ◌||◌, List, [], ◌∷◌, ◌++◌, ◌≡◌, ltb, eqb, length, take, get_or, Option, Some, None, Result, Ok, Err}
+use Rattle.std.proofs.Math.Option as defined
+use Rattle.std.proofs.Math.Option.{some, none}
 use Rattle.record.specs.declared.Record.{Record}
-use Rattle.book.specs.declared.fault.Fault.{Fault}
-use Rattle.book.specs.declared.follow.Place.{Place}
+use Rattle.record.specs.declared.kind.Kind.{Kind}
+use Rattle.record.specs.declared.kind.Kind.TheVariants.{Message, Union, Newtype, Alias, Constant, Ambiguous, Tombstone, Variant}
+use Rattle.record.specs.Kind.{code_of}
+use Rattle.record.specs.declared.refusal.Cause as code_cause
+use Rattle.record.specs.declared.refusal.Cause.TheVariants as code
+use Rattle.record.specs.declared.refusal.Refusal as answered
+use Rattle.book.specs.declared.shape.Group.{Group}
+use Rattle.book.specs.declared.children.Tree.{Tree}
+use Rattle.book.specs.declared.follow.Place as code_place
+use Rattle.book.specs.declared.scan.Scan.{Scan}
 use Rattle.book.specs.Lists.{any, find}
-use Rattle.book.specs.Shape.{Child}
-use Rattle.book.specs.Rows.{group_of}
+use Rattle.book.specs.Shape.{Child, is_of}
+use Rattle.book.specs.Rows.{group_from, is_outside_group}
 use Rattle.book.specs.Follow.{is_one_of, follow_of}
 use Rattle.book.specs.Blocks.{record_count, records}
 use Rattle.book.specs.Faults.{record_of, used_before, is_wrong, used_twice, before, is_kind, is_declaration, is_union_tombstone, variant_open}
-use Rattle.book.specs.Faults.{name_set, deeper_than}
+use Rattle.book.specs.Faults.{name_set, name_fault, deeper_than}
 use Rattle.book.specs.Refusal.{at_record, holds}
-use Rattle.book.specs.Answer.{refusal_of}
+use Rattle.book.specs.Answer.{outcome}
 
 -- n is a record of the book, which has at most 1,344
 pub record Here (book : List ℕ) (n : ℕ) : Type 0 where
@@ -25,12 +34,21 @@ pub record Counted (book : List ℕ) (count : ℕ) : Type 0 where
   pub all : count ≡ record_count book
   pub few : count ≤ 1344
 
--- roots: the groups, by number, of the records before n that no record before n has as a child, nor n in `cs`; 0 for the others before n
-pub record Roots (rs : List Record) (n : ℕ) (cs : List Child) (roots : List ℕ) : Type 0 where
-  pub long : length roots ≡ 1344
-  pub groups :
-      (k : ℕ) → k < n →
-      get_or roots k 0 ≡ cond (used_before rs n k || any (λ c. eqb c.number k) cs) 0 (group_of (record_of rs k))
+-- the tree at record k: its group, and its levels
+pub record IsTree (rs : List Record) (k : ℕ) (t : Tree) : Type 0 where
+  pub of_group : is_of (group_from t.group) (record_of rs k) ≡ true
+  pub levels_are : (d : ℕ) → deeper_than d rs k ≡ ltb d t.levels
+
+-- none stands where the record is a child already
+abbrev pub TreeAt : List Record → ℕ → Bool → Option Tree → Type 0
+TreeAt rs k true o = o ≡ None
+TreeAt rs k false None = ⊥
+TreeAt rs k false (Some t) = IsTree rs k t
+
+-- trees: those at the records before n that no record before n has as a child, nor n in `cs`
+pub record Trees (rs : List Record) (n : ℕ) (cs : List Child) (trees : List (Option Tree)) : Type 0 where
+  pub long : length trees ≡ 1344
+  pub trees_are : (k : ℕ) → k < n → TreeAt rs k (used_before rs n k || any (λ c. eqb c.number k) cs) (get_or trees k None)
   -- no record before n has n, or one behind it, as a child
   pub later : (k : ℕ) → n ≤ k → used_before rs n k ≡ false
 
@@ -38,10 +56,36 @@ pub record Roots (rs : List Record) (n : ℕ) (cs : List Child) (roots : List �
 abbrev pub used_again : List Child → List Child → Bool
 used_again cs new = any (λ c. any (λ x. eqb x.number c.number) cs) new || used_twice new
 
--- the children `new` of n are looked at, behind those in `cs`: whether one is wrong, and which roots are left if none is
-pub record Takes (rs : List Record) (n : ℕ) (cs new : List Child) (wrong : Bool) (roots : List ℕ) : Type 0 where
-  pub wrong_is : wrong ≡ any (is_wrong rs n) new || used_again cs new
-  pub left : wrong ≡ false → Roots rs n (cs ++ new) roots
+-- one of the children `new` of n, which stand behind those in `cs`, is wrong
+abbrev pub wrong : List Record → ℕ → List Child → List Child → Bool
+wrong rs n cs new = any (is_wrong rs n) new || used_again cs new
+
+-- the children `new` of n are right: which trees are left, and how many levels the deepest at them has
+pub record TakenAll (rs : List Record) (n : ℕ) (cs new : List Child) (levels : ℕ) (trees : List (Option Tree)) : Type 0 where
+  pub right : wrong rs n cs new ≡ false
+  pub left : Trees rs n (cs ++ new) trees
+  pub deepest : (d : ℕ) → any (λ c. deeper_than d rs c.number) new ≡ ltb d levels
+
+-- the children `new` of n are looked at
+abbrev pub Taken : List Record → ℕ → List Child → List Child → Result ℕ answered.Refusal → List (Option Tree) → Type 0
+Taken rs n cs new (Ok levels) trees = TakenAll rs n cs new levels trees
+Taken rs n cs new (Err e) trees = (wrong rs n cs new ≡ true) × (e ≡ record { cause = code.Child; place = n })
+
+-- a cause at a place, unless something holds
+abbrev pub unless : Bool → code_cause.Cause → ℕ → Result Unit answered.Refusal
+unless true c n = Ok tt
+unless false c n = Err (record { cause = c; place = n })
+
+-- the tree at record n, over children of so many levels
+abbrev pub too_deep : Group → ℕ → Bool
+too_deep g levels = cond (is_outside_group g) (ltb 64 levels) (ltb 63 levels)
+
+abbrev pub grown_by : Bool → ℕ → Group → ℕ → Result Tree answered.Refusal
+grown_by true n g levels = Err (record { cause = code.Depth; place = n })
+grown_by false n g levels = Ok (record { group = g; levels = levels + 1 })
+
+abbrev pub grown : ℕ → Group → ℕ → Result Tree answered.Refusal
+grown n g levels = grown_by (too_deep g levels) n g levels
 
 -- the bit of a set of names, 0 where there is none
 abbrev pub set_bit : ℕ → ℕ
@@ -52,6 +96,16 @@ set_bit (suc s) = 2 ^ s
 abbrev pub has_bit : ℕ → ℕ → Bool
 has_bit s x = eqb (x / 2 ^ s % 2) 1
 
+-- the bit of the set that records of a kind declare in
+abbrev pub bit_of : Kind → ℕ
+bit_of Message = 1
+bit_of Union = 1
+bit_of Newtype = 1
+bit_of Alias = 1
+bit_of Constant = 2
+bit_of Ambiguous = 4
+bit_of _ = 0
+
 -- names: those declared by the records before n, each with a bit for each of the three sets
 pub record Names (rs : List Record) (n : ℕ) (names : List ℕ) : Type 0 where
   pub long : length names ≡ 4096
@@ -59,25 +113,56 @@ pub record Names (rs : List Record) (n : ℕ) (names : List ℕ) : Type 0 where
       (s k : ℕ) → s < 3 → k < 4096 →
       has_bit s (get_or names k 0) ≡ any (λ x. eqb (name_set x) (suc s) && eqb x.a k) (take n rs)
 
--- depths: the levels of the trees at the records before n
-pub record Depths (rs : List Record) (n : ℕ) (depths : List ℕ) : Type 0 where
-  pub long : length depths ≡ 1344
-  pub levels : (k : ℕ) → k < n → (d : ℕ) → deeper_than d rs k ≡ ltb d (get_or depths k 0)
-  pub few : (k : ℕ) → get_or depths k 0 ≤ 65
-
--- no tree counts as more than 65 levels
-abbrev pub FewLevels : List ℕ → Type 0
-FewLevels depths = (k : ℕ) → get_or depths k 0 ≤ 65
-
--- the most levels among some children, 0 where there are none
-unfoldable pub deepest_of : List ℕ → List Child → ℕ
-deepest_of depths [] = 0
-deepest_of depths (c ∷ cs) = max (get_or depths c.number 0) (deepest_of depths cs)
-
 -- the kind of a record, 0 where there is none
-abbrev pub kind_or_0 : Option Record → ℕ
+abbrev pub kind_or_0 : defined.Option Record → ℕ
 kind_or_0 none = 0
 kind_or_0 (some r) = r.kind
+
+-- what the follow rule knows, by the numbers of kinds
+pub record Place : Type 0 where
+  pub before : ℕ
+  pub declaration : ℕ
+  pub variant : Bool
+
+-- the number of a kind, 0 for none
+abbrev pub kind_number : Option Kind → ℕ
+kind_number None = 0
+kind_number (Some k) = code_of k
+
+abbrev pub place_of : code_place.Place → Place
+place_of p = record { before = kind_number p.before; declaration = kind_number p.declaration; variant = p.variant }
+
+-- fields go under a message, and under a union with an open variant
+abbrev pub takes_fields : Option Kind → Bool → Bool
+takes_fields (Some Message) variant = true
+takes_fields (Some Union) variant = variant
+takes_fields _ variant = false
+
+abbrev pub is_union : Option Kind → Bool
+is_union (Some Union) = true
+is_union _ = false
+
+-- the latest declaration behind a record of a kind, by its number
+abbrev pub declaration_behind : Kind → ℕ → ℕ
+declaration_behind Message d = 20
+declaration_behind Union d = 21
+declaration_behind Newtype d = 22
+declaration_behind Alias d = 23
+declaration_behind Constant d = 24
+declaration_behind Ambiguous d = 25
+declaration_behind _ d = d
+
+-- whether a variant is open behind a record of a kind and with a sub, and was before it
+abbrev pub variant_behind : Kind → ℕ → Bool → Bool
+variant_behind Message sub variant = false
+variant_behind Union sub variant = false
+variant_behind Newtype sub variant = false
+variant_behind Alias sub variant = false
+variant_behind Constant sub variant = false
+variant_behind Ambiguous sub variant = false
+variant_behind Variant sub variant = true
+variant_behind Tombstone sub variant = not (eqb sub 1) && variant
+variant_behind _ sub variant = variant
 
 -- place: of the records before that the follow rule looks at, latest first
 pub record Placed (bs : List Record) (p : Place) : Type 0 where
@@ -103,20 +188,24 @@ has_room r p =
 abbrev pub open_behind : Record → Bool → Bool
 open_behind r variant = cond (is_declaration r || is_kind 33 r || is_union_tombstone r) (is_kind 33 r) variant
 
--- the three tables
-pub record Kept (book : List ℕ) (n : ℕ) (roots names depths : List ℕ) : Type 0 where
-  pub roots_are : Roots (records book) n [] roots
-  pub names_are : Names (records book) n names
-  pub depths_are : Depths (records book) n depths
+-- the name that record n declares is marked, and was not before
+pub record Declared (rs : List Record) (n : ℕ) (result : Result Unit answered.Refusal) (names : List ℕ) : Type 0 where
+  pub answer_is : result ≡ unless (not (name_fault rs n)) code.Name n
+  pub names_are : Names rs (suc n) names
 
--- record n of the book, which is r, is about to be looked at: what is known of those before it
-pub record Ready (book : List ℕ) (n : ℕ) (r : Record) (p : Place) (roots names depths : List ℕ) : Type 0 where
+-- what is known of the records before n
+pub record Known (book : List ℕ) (n : ℕ) (s : Scan) : Type 0 where
+  pub trees_are : Trees (records book) n [] s.trees
+  pub names_are : Names (records book) n s.names
+  pub placed : Placed (before (records book) n) (place_of s.place)
+
+-- record n of the book, which is r, is about to be looked at
+pub record Ready (book : List ℕ) (n : ℕ) (r : Record) (s : Scan) : Type 0 where
   pub here : Here book n
   pub is : r ≡ record_of (records book) n
-  pub placed : Placed (before (records book) n) p
-  pub kept : Kept book n roots names depths
+  pub known : Known book n s
 
--- record n was looked at: the first fault that it has, and what the tables hold if it has none
-pub record Looked (book : List ℕ) (n : ℕ) (x : Fault) (roots names depths : List ℕ) : Type 0 where
-  pub fault_is : refusal_of x ≡ find (holds book) (at_record n)
-  pub kept : refusal_of x ≡ none → Kept book (suc n) roots names depths
+-- record n was looked at: the first fault that it has, and what is known if it has none
+pub record Looked (book : List ℕ) (n : ℕ) (result : Result Unit answered.Refusal) (s : Scan) : Type 0 where
+  pub answer_is : result ≡ outcome (find (holds book) (at_record n))
+  pub known : result ≡ Ok tt → Known book (suc n) s

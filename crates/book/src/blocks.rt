@@ -1,32 +1,28 @@
-// The blocks of a book: causes 1 to 3, and the count of its records.
+//! The blocks of a book: causes 1 to 3, and the count of its records.
 
-ghost use Rattle.std.specs.Prelude.{◌≡◌, cond, not, ◌&&◌, ◌-◌, ◌≤◌, ◌<◌, eqb, leb, ltb, take, drop};
+ghost use Rattle.std.specs.Prelude.{◌≡◌, cond, not, ◌&&◌, ◌-◌, ◌+◌, ◌*◌, ◌≤◌, ◌<◌, eqb, leb, ltb, ◌==◌, take, drop, length};
+ghost use Rattle.std.specs.List.{list_all};
 ghost use mathlib.Core.List.{flat_map};
 ghost use Rattle.book.specs.Lists.{any, find, up_to};
-ghost use Rattle.book.specs.Blocks.{blocks, length_fault, block_fault, record_count};
+ghost use Rattle.book.specs.Blocks.{blocks, length_fault, block_fault, record_count, wildcards};
 ghost use Rattle.book.specs.Refusal.{at_block, holds};
-ghost use Rattle.book.specs.Answer.{refusal_of};
+ghost use Rattle.book.specs.Answer.{outcome};
 
-use crate::Cause;
-use crate::fault::Fault;
-use record::{bytes, check};
+use record::refusal::{Cause, Refusal};
+use record::{BLOCK_BYTES, BLOCK_RECORDS, HEADER_BYTES, RECORD_BYTES, bytes, check};
 
-const BLOCK_BYTES: usize = 512;
-
-const HEADER_BYTES: usize = 4;
-
-const RECORD_BYTES: usize = 24;
-
-const BLOCK_RECORDS: u16 = 21;
+// The most blocks.
+const BLOCKS: usize = 64;
 
 // Where the two zero bytes before the check end.
 const CHECK_AT: usize = 510;
 
-// Cause 1: the length of the book.
+/// Cause 1: the length of the book.
+#[tactic(auto, unfolding(crate::specs::Blocks::length_fault))]
 pub(crate) fn length_fault(book: &[u8]) -> bool
     ensures { result ≡ length_fault book.now }
 {
-    (book.len() == 0) | (32768 < book.len()) | (book.len() % BLOCK_BYTES != 0)
+    book.len() == 0 || BLOCKS * BLOCK_BYTES < book.len() || book.len() % BLOCK_BYTES != 0
 }
 
 // Whether a block may have so many records.
@@ -34,9 +30,9 @@ fn count_holds(count: u8, last: bool) -> bool
     ensures { result ≡ cond last (leb 1 count && leb count 21) (eqb count 21) }
 {
     if last {
-        (1 <= count) & (count <= 21)
+        1 <= count && count as u16 <= BLOCK_RECORDS
     } else {
-        count == 21
+        count as u16 == BLOCK_RECORDS
     }
 }
 
@@ -47,66 +43,82 @@ fn byte3_holds(byte: u8, k: u16) -> bool
     if k == 0 { byte < 2 } else { byte == 0 }
 }
 
-// Whether the bytes of a block from a place up to its check are zero.
-fn rest_holds(block: &[u8], used: usize) -> bool
-    ensures { result ≡ not (any (λ x. not (eqb x 0)) (take (510 - used) (drop used block.now))) }
+// Whether some bytes are all zero.
+fn are_zero(bytes: &[u8]) -> bool
+    ensures { result ≡ list_all (λ x. x == 0) bytes.now }
 {
-    let mut i = used;
-    while i < CHECK_AT {
-        if bytes::one(bytes::from(block, i)) != 0 {
-            return false;
-        }
-        i += 1;
-    }
-    true
+    bytes.iter().all(|byte| *byte == 0)
 }
 
-// Cause 3: a rule of block k other than its check, in a book of n blocks.
-fn block_fault(book: &[u8], k: u16, n: u16) -> bool
+// Whether the bytes behind so many records of a block, up to its check, are zero.
+fn rest_holds(block: &[u8], count: u8) -> bool
+    requires { (512 ≤ length block.now) × (count ≤ 21) }
+    ensures { result ≡ not (any (λ x. not (eqb x 0)) (take (510 - (4 + 24 * count)) (drop (4 + 24 * count) block.now))) }
+{
+    are_zero(&block[HEADER_BYTES + RECORD_BYTES * count as usize..CHECK_AT])
+}
+
+// Whether block k of n keeps the rules other than its check.
+#[tactic(auto, unfolding(crate::specs::Blocks::block_fault))]
+fn block_holds(book: &[u8], k: u16, n: u16) -> bool
     requires { (n ≡ blocks book.now) × (n ≤ 64) × (k < n) }
-    ensures { result ≡ block_fault book.now k }
+    ensures { block_fault book.now k ≡ not result }
 {
     let block = bytes::from(book, BLOCK_BYTES * (k as usize));
-    let count = bytes::one(bytes::from(block, 2));
-    let number = bytes::two(block) == k;
-    let counted = count_holds(count, k + 1 == n);
-    let byte3 = byte3_holds(bytes::one(bytes::from(block, 3)), k);
-    let rest = rest_holds(block, HEADER_BYTES + RECORD_BYTES * (count as usize));
-    !(number & counted & byte3 & rest)
+    let count = block[2];
+    bytes::two(block) == k
+        && count_holds(count, k + 1 == n)
+        && byte3_holds(block[3], k)
+        && rest_holds(block, count)
 }
 
-// The first fault of causes 2 and 3 in a book of n blocks.
-pub(crate) fn first_fault(book: &[u8], n: u16) -> Fault
-    requires { (n ≡ blocks book.now) × (n ≤ 64) }
-    ensures { refusal_of result ≡ find (holds book.now) (flat_map at_block (up_to n)) }
+// Causes 2 and 3 at block k of n.
+fn check_block(book: &[u8], k: u16, n: u16) -> Result<(), Refusal>
+    requires { (n ≡ blocks book.now) × (n ≤ 64) × (k < n) }
+    ensures { result ≡ outcome (find (holds book.now) (at_block k)) }
 {
-    let mut k: u16 = 0;
-    while k < n {
-        let fails = !check::check_holds(book, k);
-        let breaks = block_fault(book, k, n);
-        if fails {
-            return Fault::At {
-                cause: Cause::Check,
-                place: k,
-            };
-        }
-        if breaks {
-            return Fault::At {
-                cause: Cause::Block,
-                place: k,
-            };
-        }
-        k += 1;
+    if !check::check_holds(book, k) {
+        return Err(Refusal {
+            cause: Cause::Check,
+            place: k,
+        });
     }
-    Fault::Nothing
+    if !block_holds(book, k, n) {
+        return Err(Refusal {
+            cause: Cause::Block,
+            place: k,
+        });
+    }
+    Ok(())
 }
 
-// The number of records in a book of n blocks: every block but the last has 21.
+/// Causes 2 and 3 in a book of n blocks.
+pub(crate) fn check_blocks(book: &[u8], n: u16) -> Result<(), Refusal>
+    requires { (n ≡ blocks book.now) × (n ≤ 64) }
+    ensures { result ≡ outcome (find (holds book.now) (flat_map at_block (up_to n))) }
+{
+    for k in 0..n {
+        check_block(book, k, n)?;
+    }
+    Ok(())
+}
+
+/// The number of records in a book of n blocks: every block but the last has as many as fit.
+#[tactic(auto, unfolding(crate::specs::Blocks::record_count))]
 pub(crate) fn record_count(book: &[u8], n: u16) -> u16
     requires { (n ≡ blocks book.now) × (0 < n) × (n ≤ 64) }
     ensures { result ≡ record_count book.now }
 {
     let last = n - 1;
     let block = bytes::from(book, BLOCK_BYTES * (last as usize));
-    BLOCK_RECORDS * last + bytes::one(bytes::from(block, 2)) as u16
+    BLOCK_RECORDS * last + block[2] as u16
+}
+
+/// Whether byte 3 of a book tells of wildcard imports.
+#[tactic(auto, unfolding(crate::specs::Blocks::wildcards))]
+pub(crate) fn wildcards(book: &[u8]) -> bool
+    requires { 3 < length book.now }
+    ensures { result ≡ wildcards book.now }
+{
+    book[3] == 1
 }

@@ -1,73 +1,95 @@
-// The children of a record: cause 5, and how deep the trees at them are.
+//! The trees at the records: cause 5, their children, and cause 8, how deep they are.
 
-ghost use Rattle.std.specs.Prelude.{◌≡◌, List, [], ◌≤◌, ◌<◌, eqb};
+ghost use Rattle.std.specs.Prelude.{◌≡◌, List, [], ◌≤◌};
+ghost use Rattle.std.proofs.Math.Option.{some};
 ghost use Rattle.record.specs.declared.Record.{Record};
-ghost use Rattle.book.specs.Shape.{Field, Child, child_in, children_by};
-ghost use Rattle.book.specs.Rows.{row_at, field_number, ShapeTable};
-ghost use Rattle.book.specs.Tables.{Roots, Takes, FewLevels, deepest_of};
+ghost use Rattle.book.specs.Shape.{Child, child_in, children_by};
+ghost use Rattle.book.specs.Rows.{field_from, row_from};
+ghost use Rattle.book.specs.Tables.{Trees, Taken, grown};
 
-use crate::depth::larger;
-use crate::scan::RECORDS;
-use crate::shape;
-use crate::shape::{FIELD_A, FIELD_B, FIELD_C};
+use crate::shape::{Field, Group, Row};
 use record::Record;
+use record::refusal::{Cause, Refusal};
 
-// What stands for a wrong child where levels are answered. Trees count as 65 at most.
-pub const WRONG: u8 = 255;
+/// A book has at most so many records.
+pub const RECORDS: usize = 1344;
 
-// The levels of the tree at the child that a field of record n names, 0 where it names none; or WRONG if the child is a
-// wrong one. If not, it is the root of a tree no more.
-fn take_child(n: u16, f: u8, x: u16, roots: &mut [u8; RECORDS], depths: &[u8; RECORDS]) -> u8
-    requires n_bound { n ≤ 1344 }
-    requires few_levels { FewLevels depths.now }
-    ensures takes { (rs : List Record) (g : Field) (cs : List Child) → f ≡ field_number g → Roots rs n cs roots.old →
-        Takes rs n cs (child_in g x) (eqb result 255) roots.new }
-    ensures value { (result ≡ 255 → ⊥) → (g : Field) → f ≡ field_number g → result ≡ deepest_of depths.now (child_in g x) }
-{
-    let group = shape::child_in(f, x);
-    if group == 0 {
-        return 0;
-    }
-    if n <= x {
-        return WRONG;
-    }
-    let k = x as usize;
-    if roots[k] != group {
-        return WRONG;
-    }
-    roots[k] = 0;
-    depths[k]
+// A tree has at most so many levels.
+const LEVELS: u8 = 64;
+
+/// The tree at a record: the record's group, and how many levels the tree has.
+#[derive(Clone, Copy)]
+pub struct Tree {
+    pub group: Group,
+    pub levels: u8,
 }
 
-// The levels of the deepest tree at a child of record n, or WRONG if a child is a wrong one. If none is, they are roots
-// no more.
+// The levels of the tree at the child that a field of record n with the value x names, 0 where it names none. The tree is
+// taken away, so that no other field finds it.
+fn take_child(
+    n: u16,
+    field: Field,
+    x: u16,
+    trees: &mut [Option<Tree>; RECORDS],
+) -> Result<u8, Refusal>
+    requires { n ≤ 1344 }
+    ensures { (rs : List Record) (cs : List Child) → Trees rs n cs trees.old →
+        Taken rs n cs (child_in (field_from field) x) result trees.new }
+{
+    let Some(group) = field.child(x) else {
+        return Ok(0);
+    };
+    if x < n {
+        let tree = trees[x as usize];
+        trees[x as usize] = None;
+        if let Some(tree) = tree {
+            if tree.group == group {
+                return Ok(tree.levels);
+            }
+        }
+    }
+    Err(Refusal {
+        cause: Cause::Child,
+        place: n,
+    })
+}
+
+/// The levels of the deepest tree at a child of record n, 0 where it has none. The trees are taken away.
 pub(crate) fn take_children(
     n: u16,
-    r: Record,
-    row: u8,
-    table: &[[u8; 8]; 38],
-    roots: &mut [u8; RECORDS],
-    depths: &[u8; RECORDS],
-) -> u8
-    requires n_bound { n ≤ 1344 }
-    requires row_bound { row < 38 }
-    requires shape_table { ShapeTable table.now }
-    requires few_levels { FewLevels depths.now }
-    ensures takes { (rs : List Record) → Roots rs n [] roots.old →
-        Takes rs n [] (children_by r (row_at row)) (eqb result 255) roots.new }
-    ensures value { (result ≡ 255 → ⊥) → result ≡ deepest_of depths.now (children_by r (row_at row)) }
+    r: &Record,
+    row: &Row,
+    trees: &mut [Option<Tree>; RECORDS],
+) -> Result<u8, Refusal>
+    requires { n ≤ 1344 }
+    ensures { (rs : List Record) → Trees rs n [] trees.old →
+        Taken rs n [] (children_by r.now (some (row_from row.now))) result trees.new }
 {
-    let a = take_child(n, shape::cell(row, FIELD_A, table), r.a, roots, depths);
-    if a == WRONG {
-        return WRONG;
+    let a = take_child(n, row.a, r.a, trees)?;
+    let b = take_child(n, row.b, r.b, trees)?;
+    let c = take_child(n, row.c, r.c, trees)?;
+    Ok(a.max(b).max(c))
+}
+
+/// The tree at record n, which is of a group, over children of so many levels: declarations and items add none to the
+/// trees at them.
+pub(crate) fn grow(n: u16, group: Group, levels: u8) -> Result<Tree, Refusal>
+    ensures { result ≡ grown n group levels }
+{
+    let most = if group.is_outside() {
+        LEVELS
+    } else {
+        LEVELS - 1
+    };
+    if levels <= most {
+        Ok(Tree {
+            group,
+            levels: levels + 1,
+        })
+    } else {
+        Err(Refusal {
+            cause: Cause::Depth,
+            place: n,
+        })
     }
-    let b = take_child(n, shape::cell(row, FIELD_B, table), r.b, roots, depths);
-    if b == WRONG {
-        return WRONG;
-    }
-    let c = take_child(n, shape::cell(row, FIELD_C, table), r.c, roots, depths);
-    if c == WRONG {
-        return WRONG;
-    }
-    larger(a, larger(b, c))
 }

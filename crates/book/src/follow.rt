@@ -1,86 +1,170 @@
-// Which records stand behind which: cause 6.
+//! Which records stand behind which: cause 6.
 
-ghost use Rattle.std.specs.Prelude.{◌≡◌, true, List, [], ◌<◌};
-ghost use Rattle.record.specs.declared.Record.{Record};
-ghost use Rattle.book.specs.Shape.{well_shaped};
-ghost use Rattle.book.specs.Faults.{may_follow};
-ghost use Rattle.book.specs.Follow.{follow_of, FollowTable};
-ghost use Rattle.book.specs.Tables.{Placed, following, has_room, open_behind};
+ghost use Rattle.std.specs.Prelude.{◌≡◌, true, List, []};
+ghost use Rattle.record.specs.Kind.{code_of};
+ghost use Rattle.book.specs.Follow.{follow_of};
+ghost use Rattle.book.specs.Tables.{kind_number};
 
-use crate::follow_table::follows;
-use crate::shape::KINDS;
+use crate::follow_table::FOLLOW;
+use crate::shape::{KINDS, Row};
 use record::Record;
+use record::kind::Kind;
+use record::refusal::{Cause, Refusal};
 
-// What the follow rule knows of the records before: the kind of the last one above 16 and of the latest declaration,
-// 0 where there is none; and whether fields and tombstones may stand under a variant of it.
+/// What the follow rule knows of the records before: the kinds of the last declaration or item and of the latest
+/// declaration, and whether fields and tombstones may stand under a variant of it.
 #[derive(Clone, Copy)]
 pub struct Place {
-    pub before: u8,
-    pub declaration: u8,
+    pub before: Option<Kind>,
+    pub declaration: Option<Kind>,
     pub variant: bool,
 }
 
-// Nothing stands before the first record.
-pub(crate) fn start() -> Place
-    ensures { Placed [] result }
+// The number of a kind, 0 for none.
+fn number(kind: Option<Kind>) -> usize
+    ensures { result ≡ kind_number kind }
 {
-    Place {
-        before: 0,
-        declaration: 0,
-        variant: false,
-    }
-}
-
-// Whether the declaration that is meant has room for a record: a field, or a tombstone that is not the union's own,
-// needs a message, or a union with an open variant; a variant, or a tombstone of the union itself, needs a union.
-fn has_room(r: Record, p: Place) -> bool
-    ensures { result ≡ has_room r p }
-{
-    if (r.kind == 31) | (r.kind == 32) & (r.sub == 0) {
-        return (p.declaration == 20) | (p.declaration == 21) & p.variant;
-    }
-    if (r.kind == 33) | (r.kind == 32) & (r.sub == 1) {
-        return p.declaration == 21;
-    }
-    true
-}
-
-// Whether a record may stand where it stands.
-pub(crate) fn may_follow(r: Record, p: Place, follow: &[[bool; KINDS]; KINDS]) -> bool
-    requires r_value { (well_shaped r ≡ true) × (follow_of p.before 20 ≡ true) }
-    requires follow_table { FollowTable follow.now }
-    ensures { (bs : List Record) → Placed bs p → result ≡ may_follow r bs }
-{
-    if r.kind <= 16 {
-        return true;
-    }
-    follows(p.before, r.kind, follow) & has_room(r, p)
-}
-
-// Whether a variant is open behind a record of a kind above 16.
-fn open_behind(r: Record, variant: bool) -> bool
-    ensures { result ≡ open_behind r variant }
-{
-    let kind = r.kind;
     match kind {
-        20..=25 => false,
-        33 => true,
-        32 => (r.sub != 1) & variant,
-        _ => variant,
+        Some(kind) => kind.code() as usize,
+        None => 0,
     }
 }
 
-// The place behind a record.
-pub(crate) fn next(p: Place, r: Record) -> Place
-    ensures { (bs : List Record) → Placed bs p → well_shaped r ≡ true → may_follow r bs ≡ true → Placed (following r bs) result }
+// Whether a record of a kind may stand behind one of another kind, as far as the two kinds tell.
+fn follows(before: Option<Kind>, kind: Kind) -> bool
+    ensures { result ≡ follow_of (kind_number before) (code_of kind) }
 {
-    if r.kind <= 16 {
-        return p;
+    let row = number(before);
+    let column = kind.code() as usize;
+    if KINDS <= row {
+        return false;
     }
-    let declares = (20 <= r.kind) & (r.kind <= 25);
-    Place {
-        before: r.kind,
-        declaration: if declares { r.kind } else { p.declaration },
-        variant: open_behind(r, p.variant),
+    if KINDS <= column {
+        return false;
+    }
+    FOLLOW[row][column]
+}
+
+impl Place {
+    ghost use Rattle.record.specs.declared.Record.{Record};
+    ghost use Rattle.record.specs.Kind.{code_of};
+    ghost use Rattle.book.specs.Rows.{IsRow};
+    ghost use Rattle.book.specs.Faults.{may_follow};
+    ghost use Rattle.book.specs.Tables.{Placed, unless, following, has_room, takes_fields, is_union, declaration_behind, variant_behind, kind_number, place_of};
+
+    /// Nothing stands before the first record.
+    pub(crate) fn start() -> Place
+        ensures { Placed [] (place_of result) }
+    {
+        Place {
+            before: None,
+            declaration: None,
+            variant: false,
+        }
+    }
+
+    // Whether fields go here: under a message, or under a union with an open variant.
+    fn takes_fields(&self) -> bool
+        ensures { result ≡ takes_fields self.now.declaration self.now.variant }
+    {
+        match self.declaration {
+            Some(Kind::Message) => true,
+            Some(Kind::Union) => self.variant,
+            _ => false,
+        }
+    }
+
+    // Whether the latest declaration is a union.
+    fn is_union(&self) -> bool
+        ensures { result ≡ is_union self.now.declaration }
+    {
+        matches!(self.declaration, Some(Kind::Union))
+    }
+
+    // Whether the declaration that is meant has room for a record of a kind.
+    fn has_room(&self, r: &Record, kind: Kind) -> bool
+        requires { r.now.kind ≡ code_of kind }
+        ensures { result ≡ has_room r.now (place_of self.now) }
+    {
+        match kind {
+            Kind::Field => self.takes_fields(),
+            Kind::Tombstone => match r.sub {
+                0 => self.takes_fields(),
+                1 => self.is_union(),
+                _ => true,
+            },
+            Kind::Variant => self.is_union(),
+            _ => true,
+        }
+    }
+
+    // Whether a record may stand where it stands.
+    fn may_follow(&self, r: &Record, row: &Row) -> bool
+        requires { IsRow r.now row.now }
+        ensures { (bs : List Record) → Placed bs (place_of self.now) → result ≡ may_follow r.now bs }
+    {
+        !row.group.is_outside() || follows(self.before, row.kind) && self.has_room(r, row.kind)
+    }
+
+    /// Cause 6 at record n.
+    pub(crate) fn check(&self, n: u16, r: &Record, row: &Row) -> Result<(), Refusal>
+        requires { IsRow r.now row.now }
+        ensures { (bs : List Record) → Placed bs (place_of self.now) → result ≡ unless (may_follow r.now bs) Cause.Follow n }
+    {
+        if self.may_follow(r, row) {
+            return Ok(());
+        }
+        Err(Refusal {
+            cause: Cause::Follow,
+            place: n,
+        })
+    }
+
+    // The latest declaration behind a record of a kind.
+    fn declaration_behind(&self, kind: Kind) -> Option<Kind>
+        ensures { kind_number result ≡ declaration_behind kind (kind_number self.now.declaration) }
+    {
+        match kind {
+            Kind::Message
+            | Kind::Union
+            | Kind::Newtype
+            | Kind::Alias
+            | Kind::Constant
+            | Kind::Ambiguous => Some(kind),
+            _ => self.declaration,
+        }
+    }
+
+    // Whether a variant is open behind a record of a kind.
+    fn is_open_behind(&self, r: &Record, kind: Kind) -> bool
+        ensures { result ≡ variant_behind kind r.now.sub self.now.variant }
+    {
+        match kind {
+            Kind::Message
+            | Kind::Union
+            | Kind::Newtype
+            | Kind::Alias
+            | Kind::Constant
+            | Kind::Ambiguous => false,
+            Kind::Variant => true,
+            Kind::Tombstone => r.sub != 1 && self.variant,
+            _ => self.variant,
+        }
+    }
+
+    /// The place behind a record.
+    pub(crate) fn next(&self, r: &Record, row: &Row) -> Place
+        requires { IsRow r.now row.now }
+        ensures { (bs : List Record) → Placed bs (place_of self.now) → may_follow r.now bs ≡ true →
+            Placed (following r.now bs) (place_of result) }
+    {
+        if !row.group.is_outside() {
+            return *self;
+        }
+        Place {
+            before: Some(row.kind),
+            declaration: self.declaration_behind(row.kind),
+            variant: self.is_open_behind(r, row.kind),
+        }
     }
 }

@@ -1,43 +1,55 @@
-// Names declared again: cause 7.
+//! Names declared again: cause 7.
 
-ghost use Rattle.std.specs.Prelude.{◌≡◌, List, ℕ, suc, ◌<◌, length};
+ghost use Rattle.std.specs.Prelude.{◌≡◌, List, ◌<◌, length};
 ghost use Rattle.record.specs.declared.Record.{Record};
-ghost use Rattle.book.specs.Faults.{record_of, name_set, name_fault};
-ghost use Rattle.book.specs.Tables.{set_bit, Names};
+ghost use Rattle.record.specs.Kind.{code_of};
+ghost use Rattle.book.specs.Faults.{record_of, name_set};
+ghost use Rattle.book.specs.Tables.{bit_of, Names, Declared};
 
 use record::Record;
+use record::kind::Kind;
+use record::refusal::{Cause, Refusal};
 
-// The number of names.
+/// The number of names.
 pub const NAMES: usize = 4096;
 
-// The bit of the set of names that a record declares in: 1 for 20 to 23, 2 for 24, 4 for 25, and 0 for what declares none.
-fn name_bit(r: Record) -> u8
-    ensures { result ≡ set_bit (name_set r) }
+// The bit of the set of names that records of a kind declare in, 0 where they declare none: constants and ambiguous names
+// have a set each, the other declarations share one.
+fn bit_of(kind: Kind) -> u8
+    ensures { result ≡ bit_of kind }
 {
-    let kind = r.kind;
     match kind {
-        20..=23 => 1,
-        24 => 2,
-        25 => 4,
+        Kind::Message | Kind::Union | Kind::Newtype | Kind::Alias => 1,
+        Kind::Constant => 2,
+        Kind::Ambiguous => 4,
         _ => 0,
     }
 }
 
-// Whether record n, which is r, declares a name again. The name is marked as declared: it has a byte, with a bit for each set.
-pub(crate) fn declare(r: Record, names: &mut [u8; NAMES]) -> bool
-    requires { 0 < name_set r → r.a < 4096 }
-    ensures { (rs : List Record) (n : ℕ) → Names rs n names.old → n < length rs → r ≡ record_of rs n →
-        (result ≡ name_fault rs n) × Names rs (suc n) names.new }
+/// Marks the name that record n declares, if it declares one: a name has a byte, with a bit for each set.
+pub(crate) fn declare(
+    n: u16,
+    r: &Record,
+    kind: Kind,
+    names: &mut [u8; NAMES],
+) -> Result<(), Refusal>
+    requires name { 0 < name_set r.now → r.now.a < 4096 }
+    requires kind { r.now.kind ≡ code_of kind }
+    ensures { (rs : List Record) → Names rs n names.old → n < length rs → r.now ≡ record_of rs n →
+        Declared rs n result names.new }
 {
-    let bit = name_bit(r);
+    let bit = bit_of(kind);
     if bit == 0 {
-        return false;
+        return Ok(());
     }
-    let at = r.a as usize;
-    let had = names[at] % 8;
+    let name = r.a as usize;
+    let had = names[name] % 8;
     if had / bit % 2 == 1 {
-        return true;
+        return Err(Refusal {
+            cause: Cause::Name,
+            place: n,
+        });
     }
-    names[at] = had + bit;
-    false
+    names[name] = had + bit;
+    Ok(())
 }

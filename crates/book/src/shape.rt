@@ -1,268 +1,262 @@
-// The shapes of records: cause 4, and where the children of a record stand.
+//! The shapes of records: cause 4, and where the children of a record stand.
 
-ghost use Rattle.std.specs.Prelude.{◌≡◌, ◌≤◌, ◌<◌, true};
+ghost use Rattle.std.specs.Prelude.{◌≡◌, find, option_copied, length, drop, ◌≤◌};
 ghost use Rattle.std.proofs.Math.Option.{some};
-ghost use Rattle.book.specs.Shape.{Field, Row, table, is_row, row_of, allows, fits, child_in};
-ghost use Rattle.book.specs.Rows.{row_at, first_row, field_number, cell_in, group_in, last_in, ShapeTable, FirstRows, Primitive};
+ghost use Rattle.book.specs.Shape.{table, is_row, row_of, allows, fits, child_in};
+ghost use Rattle.book.specs.Rows.{row_from, row_in, field_from, last_in, none_in, children_of, first_row, is_plain, Shaped};
 
+use Field::{
+    Bits, Child, Flag, Free, MaybeChild, MaybeName, MaybeString, Name, Ordinal, String, Unused,
+};
+use Group::{Constant, Constraint, Declaration, Item, Operand, Type};
 use record::Record;
+use record::kind::Kind;
+use record::refusal::{Cause, Refusal};
 
-// The groups of kinds.
-pub const TYPE: u8 = 1;
+/// The groups of kinds.
+#[derive(Clone, Copy, PartialEq, Eq)]
+pub enum Group {
+    Type,
+    Constant,
+    Constraint,
+    Operand,
+    Declaration,
+    Item,
+}
 
-const CONST: u8 = 2;
+impl Group {
+    ghost use Rattle.book.specs.Rows.{is_outside_group};
 
-const WHERE: u8 = 3;
+    /// Whether records of the group are no part of a tree.
+    pub(crate) fn is_outside(self) -> bool
+        ensures { result ≡ is_outside_group self }
+    {
+        matches!(self, Declaration | Item)
+    }
+}
 
-const OPERAND: u8 = 4;
+/// What a field may hold.
+#[derive(Clone, Copy)]
+pub enum Field {
+    Unused,
+    Flag,
+    Bits,
+    Name,
+    MaybeName,
+    String,
+    MaybeString,
+    Ordinal,
+    Free,
+    Child(Group),
+    MaybeChild(Group),
+}
 
-const DECL: u8 = 5;
-
-const ITEM: u8 = 6;
-
-// What a field may hold.
-const UNUSED: u8 = 0;
-
-const FLAG: u8 = 1;
-
-const BITS: u8 = 2;
-
-const NAME: u8 = 3;
-
-const MAYBE_NAME: u8 = 4;
-
-const STRING: u8 = 5;
-
-const MAYBE_STRING: u8 = 6;
-
-const ORDINAL: u8 = 7;
-
-const FREE: u8 = 8;
-
-// A child has the number of its group on top; one that may be missing stands higher than one that has to be there.
-const CHILD: u8 = 10;
-
-const MAYBE: u8 = 20;
-
-const A_TYPE: u8 = 11;
-
-const A_CONST: u8 = 12;
-
-const A_WHERE: u8 = 13;
-
-const AN_OPERAND: u8 = 14;
-
-const MAYBE_TYPE: u8 = 21;
-
-const MAYBE_WHERE: u8 = 23;
+/// Records of a kind with a sub from `low` to `high`, and their fields.
+#[derive(Clone, Copy)]
+pub struct Row {
+    pub group: Group,
+    pub kind: Kind,
+    pub low: u8,
+    pub high: u8,
+    pub a: Field,
+    pub b: Field,
+    pub c: Field,
+    pub v: Field,
+}
 
 // What stands for no child and for no name.
 const NONE: u16 = 65535;
 
-// Kinds are below this.
+/// Kinds of a book are below this.
 pub const KINDS: usize = 37;
 
-// The number of rows; as the number of a row it stands for none.
-pub const ROWS: u8 = 38;
-
-// The columns of the table: the group, the kind, the first and the last sub, and what a, b, c and v may hold.
-pub const GROUP: u8 = 0;
-
-const KIND: u8 = 1;
-
-const LOW: u8 = 2;
-
-const HIGH: u8 = 3;
-
-pub const FIELD_A: u8 = 4;
-
-pub const FIELD_B: u8 = 5;
-
-pub const FIELD_C: u8 = 6;
-
-const FIELD_V: u8 = 7;
-
-pub const TABLE: [[u8; 8]; 38] = [
-    [TYPE, 1, 0, 13, UNUSED, UNUSED, UNUSED, UNUSED], // primitive
-    [TYPE, 2, 0, 1, BITS, UNUSED, UNUSED, UNUSED], // sub-byte
-    [TYPE, 3, 0, 5, UNUSED, UNUSED, UNUSED, UNUSED], // semantic
-    [TYPE, 4, 0, 0, NAME, UNUSED, UNUSED, UNUSED], // named
-    [TYPE, 5, 0, 0, NAME, NAME, UNUSED, UNUSED], // qualified
-    [TYPE, 6, 0, 0, NAME, A_TYPE, UNUSED, UNUSED], // generic
-    [TYPE, 7, 0, 1, A_TYPE, UNUSED, UNUSED, UNUSED], // Optional, Array
-    [TYPE, 7, 2, 2, A_TYPE, UNUSED, UNUSED, FREE], // FixedArray
-    [TYPE, 7, 3, 9, A_TYPE, UNUSED, UNUSED, UNUSED], // Set, Vec2 to Mat4
-    [TYPE, 8, 0, 1, A_TYPE, A_TYPE, UNUSED, UNUSED], // Map, Result
-    [TYPE, 9, 0, 0, FREE, UNUSED, UNUSED, UNUSED], // inline bits
-    [CONST, 10, 0, 3, UNUSED, UNUSED, UNUSED, FREE], // Int, UInt, Float, Hex
-    [CONST, 10, 4, 4, UNUSED, UNUSED, UNUSED, FLAG], // Bool
-    [CONST, 11, 0, 0, NAME, UNUSED, UNUSED, UNUSED], // reference
-    [CONST, 12, 0, 9, A_CONST, A_CONST, UNUSED, UNUSED], // operation
-    [WHERE, 13, 0, 1, A_WHERE, A_WHERE, UNUSED, UNUSED], // And, Or
-    [WHERE, 13, 2, 2, A_WHERE, UNUSED, UNUSED, UNUSED], // Not
-    [WHERE, 14, 0, 5, AN_OPERAND, UNUSED, FLAG, UNUSED], // comparison
-    [WHERE, 15, 0, 1, AN_OPERAND, AN_OPERAND, FLAG, UNUSED], // range
-    [OPERAND, 16, 0, 1, UNUSED, UNUSED, UNUSED, FREE], // Int, Float
-    [OPERAND, 16, 2, 2, STRING, UNUSED, UNUSED, UNUSED], // String
-    [OPERAND, 16, 3, 3, UNUSED, UNUSED, UNUSED, FLAG], // Bool
-    [OPERAND, 16, 4, 4, UNUSED, UNUSED, UNUSED, FREE], // Value
-    [OPERAND, 16, 5, 5, NAME, UNUSED, UNUSED, UNUSED], // reference
-    [DECL, 20, 0, 0, NAME, UNUSED, UNUSED, UNUSED], // message
-    [DECL, 21, 0, 0, NAME, UNUSED, UNUSED, UNUSED], // union
-    [DECL, 22, 0, 0, NAME, A_TYPE, UNUSED, UNUSED], // newtype
-    [DECL, 23, 0, 0, NAME, A_TYPE, UNUSED, UNUSED], // alias
-    [DECL, 24, 0, 0, NAME, A_TYPE, A_CONST, UNUSED], // constant
-    [DECL, 25, 0, 0, NAME, UNUSED, UNUSED, UNUSED], // ambiguous name
-    [ITEM, 30, 0, 0, NAME, UNUSED, UNUSED, UNUSED], // type parameter
-    [ITEM, 31, 0, 0, NAME, A_TYPE, MAYBE_WHERE, ORDINAL], // field
-    [ITEM, 32, 0, 1, UNUSED, UNUSED, MAYBE_TYPE, ORDINAL], // tombstone
-    [ITEM, 33, 0, 0, NAME, UNUSED, UNUSED, ORDINAL], // variant
-    [ITEM, 34, 0, 4, UNUSED, UNUSED, UNUSED, UNUSED], // annotation
-    [ITEM, 35, 0, 1, MAYBE_NAME, UNUSED, UNUSED, FREE], // argument: Int, Hex
-    [ITEM, 35, 2, 2, MAYBE_NAME, UNUSED, UNUSED, UNUSED], // argument: other
-    [ITEM, 36, 0, 2, MAYBE_STRING, UNUSED, UNUSED, UNUSED], // tombstone argument
-];
-
-// The first row of each kind, ROWS for numbers that are no kind. The rows of a kind stand together.
-pub const FIRST: [u8; KINDS] = [
-    ROWS, 0, // kind 1
-    1, // kind 2
-    2, // kind 3
-    3, // kind 4
-    4, // kind 5
-    5, // kind 6
-    6, // kind 7
-    9, // kind 8
-    10, // kind 9
-    11, // kind 10
-    13, // kind 11
-    14, // kind 12
-    15, // kind 13
-    17, // kind 14
-    18, // kind 15
-    19, // kind 16
-    ROWS, ROWS, ROWS, 24, // kind 20
-    25, // kind 21
-    26, // kind 22
-    27, // kind 23
-    28, // kind 24
-    29, // kind 25
-    ROWS, ROWS, ROWS, ROWS, 30, // kind 30
-    31, // kind 31
-    32, // kind 32
-    33, // kind 33
-    34, // kind 34
-    35, // kind 35
-    37, // kind 36
-];
-
-// A number of a row of the table.
-pub(crate) fn cell(row: u8, column: u8, table: &[[u8; 8]; 38]) -> u8
-    requires row_bound { (row < 38) × (column < 8) }
-    requires shape_table { ShapeTable table.now }
-    ensures { result ≡ cell_in (row_at row) column }
-{
-    let w = row as usize;
-    let k = column as usize;
-    table[w][k]
+// A row, written short. It is no function, since a constant calls none.
+macro_rules! row {
+    ($group:expr, $kind:expr, $low:literal..=$high:literal, $a:expr, $b:expr, $c:expr, $v:expr) => {
+        Row {
+            group: $group,
+            kind: $kind,
+            low: $low,
+            high: $high,
+            a: $a,
+            b: $b,
+            c: $c,
+            v: $v,
+        }
+    };
 }
 
-// Whether a record is of a row, by its kind and its sub.
-fn is_row(r: Record, row: u8, table: &[[u8; 8]; 38]) -> bool
-    requires row_bound { row < 38 }
-    requires shape_table { ShapeTable table.now }
-    ensures { (w : Row) → row_at row ≡ some w → result ≡ is_row r w }
-{
-    let kind = cell(row, KIND, table);
-    let low = cell(row, LOW, table);
-    let high = cell(row, HIGH, table);
-    (r.kind == kind) & (low <= r.sub) & (r.sub <= high)
+/// The table of shapes. A kind stands in several rows, one behind the other, where its subs have different fields.
+#[rattlefmt::skip]
+pub const TABLE: [Row; 38] = [
+    row!(Type, Kind::Primitive, 0..=13, Unused, Unused, Unused, Unused),
+    row!(Type, Kind::SubByte, 0..=1, Bits, Unused, Unused, Unused),
+    row!(Type, Kind::Semantic, 0..=5, Unused, Unused, Unused, Unused),
+    row!(Type, Kind::Named, 0..=0, Name, Unused, Unused, Unused),
+    row!(Type, Kind::Qualified, 0..=0, Name, Name, Unused, Unused),
+    row!(Type, Kind::Generic, 0..=0, Name, Child(Type), Unused, Unused),
+    row!(Type, Kind::OverOne, 0..=1, Child(Type), Unused, Unused, Unused), // Optional, Array
+    row!(Type, Kind::OverOne, 2..=2, Child(Type), Unused, Unused, Free), // FixedArray
+    row!(Type, Kind::OverOne, 3..=9, Child(Type), Unused, Unused, Unused), // Set, Vec2 to Mat4
+    row!(Type, Kind::OverTwo, 0..=1, Child(Type), Child(Type), Unused, Unused), // Map, Result
+    row!(Type, Kind::InlineBits, 0..=0, Free, Unused, Unused, Unused),
+    row!(Constant, Kind::Literal, 0..=3, Unused, Unused, Unused, Free), // Int, UInt, Float, Hex
+    row!(Constant, Kind::Literal, 4..=4, Unused, Unused, Unused, Flag), // Bool
+    row!(Constant, Kind::Reference, 0..=0, Name, Unused, Unused, Unused),
+    row!(Constant, Kind::Operation, 0..=9, Child(Constant), Child(Constant), Unused, Unused),
+    row!(Constraint, Kind::Logic, 0..=1, Child(Constraint), Child(Constraint), Unused, Unused), // And, Or
+    row!(Constraint, Kind::Logic, 2..=2, Child(Constraint), Unused, Unused, Unused), // Not
+    row!(Constraint, Kind::Comparison, 0..=5, Child(Operand), Unused, Flag, Unused),
+    row!(Constraint, Kind::Range, 0..=1, Child(Operand), Child(Operand), Flag, Unused),
+    row!(Operand, Kind::Operand, 0..=1, Unused, Unused, Unused, Free), // Int, Float
+    row!(Operand, Kind::Operand, 2..=2, String, Unused, Unused, Unused), // String
+    row!(Operand, Kind::Operand, 3..=3, Unused, Unused, Unused, Flag), // Bool
+    row!(Operand, Kind::Operand, 4..=4, Unused, Unused, Unused, Free), // Value
+    row!(Operand, Kind::Operand, 5..=5, Name, Unused, Unused, Unused), // reference
+    row!(Declaration, Kind::Message, 0..=0, Name, Unused, Unused, Unused),
+    row!(Declaration, Kind::Union, 0..=0, Name, Unused, Unused, Unused),
+    row!(Declaration, Kind::Newtype, 0..=0, Name, Child(Type), Unused, Unused),
+    row!(Declaration, Kind::Alias, 0..=0, Name, Child(Type), Unused, Unused),
+    row!(Declaration, Kind::Constant, 0..=0, Name, Child(Type), Child(Constant), Unused),
+    row!(Declaration, Kind::Ambiguous, 0..=0, Name, Unused, Unused, Unused),
+    row!(Item, Kind::TypeParameter, 0..=0, Name, Unused, Unused, Unused),
+    row!(Item, Kind::Field, 0..=0, Name, Child(Type), MaybeChild(Constraint), Ordinal),
+    row!(Item, Kind::Tombstone, 0..=1, Unused, Unused, MaybeChild(Type), Ordinal),
+    row!(Item, Kind::Variant, 0..=0, Name, Unused, Unused, Ordinal),
+    row!(Item, Kind::Annotation, 0..=4, Unused, Unused, Unused, Unused),
+    row!(Item, Kind::Argument, 0..=1, MaybeName, Unused, Unused, Free), // Int, Hex
+    row!(Item, Kind::Argument, 2..=2, MaybeName, Unused, Unused, Unused), // other
+    row!(Item, Kind::TombstoneArgument, 0..=2, MaybeString, Unused, Unused, Unused),
+];
+
+// Where the rows of each kind begin, so that no record is looked for from the first row on; past the last row for what is
+// no kind of a book.
+#[rattlefmt::skip]
+const FIRST: [u8; KINDS] = [
+    38, 0, 1, 2, 3, 4, 5, 6, 9, 10, 11, 13, 14, 15, 17, 18, 19, 38, 38, 38, 24,
+    25, 26, 27, 28, 29, 38, 38, 38, 38, 30, 31, 32, 33, 34, 35, 37,
+];
+
+impl Field {
+    ghost use Rattle.book.specs.Rows.{field_from, last_in, none_in, children_of};
+
+    // The last value that a field may hold, apart from the one that stands for no name.
+    fn last(self) -> u64
+        ensures { result ≡ last_in (field_from self) }
+    {
+        match self {
+            Unused => 0,
+            Flag => 1,
+            Bits => 255,
+            Name | MaybeName => 4095,
+            String => 65534,
+            Ordinal => 0xFFFF_FFFF,
+            MaybeString | Free | Child(_) | MaybeChild(_) => u64::MAX,
+        }
+    }
+
+    // Whether x stands for none in a field that else holds less.
+    fn is_none(self, x: u64) -> bool
+        ensures { result ≡ none_in (field_from self) x }
+    {
+        match self {
+            MaybeName => x == NONE as u64,
+            _ => false,
+        }
+    }
+
+    // Whether a field may hold x.
+    #[tactic(auto, using(crate::proofs::Cells::allowed, crate::proofs::Cells::allowed_none))]
+    fn allows(self, x: u64) -> bool
+        ensures { result ≡ allows (field_from self) x }
+    {
+        x <= self.last() || self.is_none(x)
+    }
+
+    /// The group of the child that a field with the value x names, if it names one.
+    #[tactic(auto, unfolding(crate::specs::Shape::child_in))]
+    pub(crate) fn child(self, x: u16) -> Option<Group>
+        ensures { children_of result x ≡ child_in (field_from self) x }
+    {
+        match self {
+            Child(group) => Some(group),
+            MaybeChild(group) => { if x == NONE { None } else { Some(group) } }
+            Unused | Flag | Bits | Name | MaybeName | String | MaybeString | Ordinal | Free => None,
+        }
+    }
 }
 
-// The first row of a kind.
-fn first_row(kind: u8, first: &[u8; KINDS]) -> u8
-    requires { FirstRows first.now }
+impl Row {
+    ghost use Rattle.book.specs.Rows.{row_from};
+
+    // Whether a record is of the row, by its kind and its sub.
+    fn takes(&self, r: &Record) -> bool
+        ensures { result ≡ is_row r.now (row_from self.now) }
+    {
+        r.kind == self.kind.code() && self.low <= r.sub && r.sub <= self.high
+    }
+
+    // Whether every field of a record is inside the values of the row.
+    fn fits(&self, r: &Record) -> bool
+        ensures { result ≡ fits r.now (some (row_from self.now)) }
+    {
+        self.a.allows(r.a as u64)
+            && self.b.allows(r.b as u64)
+            && self.c.allows(r.c as u64)
+            && self.v.allows(r.v)
+    }
+}
+
+// The number of the first row of a kind, and of all rows where there is none.
+fn first_row(kind: u8) -> usize
     ensures { result ≡ first_row kind table }
 {
-    let k = kind as usize;
-    if k < KINDS { first[k] } else { ROWS }
-}
-
-// The number of a record's row.
-pub(crate) fn row_of(r: Record, table: &[[u8; 8]; 38], first: &[u8; KINDS]) -> u8
-    requires { ShapeTable table.now × FirstRows first.now }
-    ensures { (result ≤ 38) × (row_at result ≡ row_of r) }
-{
-    let mut row = first_row(r.kind, first);
-    while row < ROWS {
-        if is_row(r, row, table) {
-            return row;
-        }
-        row += 1;
-    }
-    ROWS
-}
-
-// Whether a record is a primitive type with nothing in its fields: it is well shaped by the first row.
-pub(crate) fn is_primitive(r: Record) -> bool
-    ensures { result ≡ true → Primitive r }
-{
-    (r.kind == 1) & (r.sub <= 13) & (r.a == 0) & (r.b == 0) & (r.c == 0) & (r.v == 0)
-}
-
-// The last value that a field may hold, apart from the one that stands for no name.
-fn last_in(f: u8) -> u64
-    ensures { result ≡ last_in f }
-{
-    match f {
-        UNUSED => 0,
-        FLAG => 1,
-        BITS => 255,
-        NAME => 4095,
-        MAYBE_NAME => 4095,
-        STRING => 65534,
-        ORDINAL => 0xFFFF_FFFF,
-        _ => 0xFFFF_FFFF_FFFF_FFFF,
+    let at = kind as usize;
+    if at < KINDS {
+        FIRST[at] as usize
+    } else {
+        TABLE.len()
     }
 }
 
-// Whether a field may hold x.
-fn allows(f: u8, x: u64) -> bool
-    ensures { (g : Field) → f ≡ field_number g → result ≡ allows g x }
+// The first of some rows that a record is of.
+fn first_of<'a>(rows: &'a [Row], r: &Record) -> Option<&'a Row>
+    ensures { option_copied result ≡ find (λ w. is_row r.now (row_from w)) rows.entry.now }
 {
-    if x <= last_in(f) {
-        return true;
-    }
-    (f == MAYBE_NAME) & (x == 65535)
+    rows.iter().find(|row| row.takes(r))
 }
 
-// Whether every field of a record is inside the values of a row.
-pub(crate) fn fits(r: Record, row: u8, table: &[[u8; 8]; 38]) -> bool
-    requires row_bound { row < 38 }
-    requires shape_table { ShapeTable table.now }
-    ensures { result ≡ fits r (row_at row) }
+// The rows from a number on.
+fn rows_from(rows: &[Row], first: usize) -> &[Row]
+    requires { first ≤ length rows.now }
+    ensures { result.now ≡ drop first rows.now }
 {
-    if !allows(cell(row, FIELD_A, table), r.a as u64) {
-        return false;
-    }
-    if !allows(cell(row, FIELD_B, table), r.b as u64) {
-        return false;
-    }
-    if !allows(cell(row, FIELD_C, table), r.c as u64) {
-        return false;
-    }
-    allows(cell(row, FIELD_V, table), r.v)
+    &rows[first..]
 }
 
-// The group of the child that a field with the value x names, 0 where it names none.
-pub(crate) fn child_in(f: u8, x: u16) -> u8
-    ensures { (g : Field) → f ≡ field_number g → result ≡ group_in (child_in g x) }
+// The row of a record, if it has one.
+fn row_of(r: &Record) -> Option<&'static Row>
+    ensures { row_in result ≡ row_of r.now }
 {
-    if f < CHILD {
-        return 0;
+    first_of(rows_from(&TABLE, first_row(r.kind)), r)
+}
+
+/// The row of record n, whose fields are all inside their values; or cause 4.
+pub(crate) fn shape_of(n: u16, r: &Record) -> Result<&'static Row, Refusal>
+    ensures { Shaped n r.now result }
+{
+    match row_of(r) {
+        Some(row) if row.fits(r) => Ok(row),
+        _ => Err(Refusal {
+            cause: Cause::Shape,
+            place: n,
+        }),
     }
-    if f < MAYBE {
-        return f - CHILD;
-    }
-    if x == NONE { 0 } else { f - MAYBE }
+}
+
+/// Whether a record is a primitive type with nothing in its fields: it is well shaped by the first row.
+pub(crate) fn is_primitive(r: &Record) -> bool
+    ensures { result ≡ is_plain r.now }
+{
+    r.kind == Kind::Primitive.code() && r.sub <= 13 && r.a == 0 && r.b == 0 && r.c == 0 && r.v == 0
 }

@@ -16,7 +16,7 @@ use Rattle.constants.proofs.Turns.{done_not_ready}
 
 -- the first that passes, by its number
 module _ {A : Type 0} (test : A → Bool) (d : A) where
-  find_at :
+  pub find_at :
       (l : List A) (i : ℕ) → i < length l → ((j : ℕ) → j < i → test (get_or l j d) ≡ false) → test (get_or l i d) ≡ true →
       find test l ≡ some (get_or l i d)
   find_at [] i less before here = absurd (omega arith)
@@ -24,7 +24,7 @@ module _ {A : Type 0} (test : A → Bool) (d : A) where
   find_at (x ∷ l) (suc i) less before here =
       find_miss test x l (before 0 (omega arith)) ∙ find_at l i (omega arith) (λ j h. before (suc j) (omega arith)) here
 
-  find_past : (l : List A) → ((j : ℕ) → j < length l → test (get_or l j d) ≡ false) → find test l ≡ none
+  pub find_past : (l : List A) → ((j : ℕ) → j < length l → test (get_or l j d) ≡ false) → find test l ≡ none
   unfolding find
   find_past [] before = refl
   find_past (x ∷ l) before =

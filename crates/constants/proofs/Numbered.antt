@@ -58,11 +58,11 @@ module _ (book : Book) where
   numbers = numbers_of (is_kind 24) book
 
   -- there are as many as numbers, and constant i has number i
-  as_many : length (constants book) ≡ length numbers
+  pub as_many : length (constants book) ≡ length numbers
   unfolding constants
   as_many = length-map numbers (constant_at book)
 
-  number_of : (i : ℕ) → (constant_in (constants book) i).place ≡ get_or numbers i 0
+  pub number_of : (i : ℕ) → (constant_in (constants book) i).place ≡ get_or numbers i 0
   unfolding constants constant_in constant_at
   number_of i = sym (get_or-map (λ (c : Constant). c.place) (constants book) i _) ∙ ap (λ l. get_or l i 0) (places numbers)
     where
@@ -71,7 +71,7 @@ module _ (book : Book) where
       places (n ∷ l) = ap (λ r. n ∷ r) (places l)
 
   -- it is one of them
-  among : (i : ℕ) → i < length (constants book) → Memᴰ (constant_in (constants book) i) (constants book)
+  pub among : (i : ℕ) → i < length (constants book) → Memᴰ (constant_in (constants book) i) (constants book)
   unfolding constant_in
   among i less =
       subst (Memᴰ (constant_in (constants book) i)) (take-length (constants book))

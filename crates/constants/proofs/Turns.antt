@@ -130,7 +130,7 @@ module _
 pub has_own : (n : ℕ) (ns : List ℕ) → has n (n ∷ ns) ≡ true
 has_own n ns = mem_has (Memᴰ.head refl)
 
-has_other : (n m : ℕ) (ns : List ℕ) → (n ≡ m → ⊥) → has n (m ∷ ns) ≡ has n ns
+pub has_other : (n m : ℕ) (ns : List ℕ) → (n ≡ m → ⊥) → has n (m ∷ ns) ≡ has n ns
 unfolding any
 has_other n m ns ne = rw (ne_eqb m n (λ e. ne (sym e)), any)
 

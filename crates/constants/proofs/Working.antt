@@ -12,7 +12,7 @@ use Rattle.book.specs.Blocks.{record_count}
 use Rattle.constants.specs.Tables.{NamesBelow, Works}
 
 -- every entry is the one that was repeated, also past the end
-all_alike : {A : Type 0} (most : ℕ) (x : A) (n : ℕ) → get_or (replicate most x) n x ≡ x
+pub all_alike : {A : Type 0} (most : ℕ) (x : A) (n : ℕ) → get_or (replicate most x) n x ≡ x
 all_alike {A} most x n = go (dec_lt n most)
   where
     go : Dec (n < most) → get_or (replicate most x) n x ≡ x

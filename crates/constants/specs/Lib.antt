@@ -12,3 +12,7 @@ pub mod SameTrees
 pub mod Tables
 pub mod Evaluated
 pub mod Demand3
+pub mod Given
+pub mod Tree
+pub mod Steps
+pub mod Evaluations

@@ -1,4 +1,4 @@
--- What the arrays of the evaluation hold, and what each function inside finds. Words in quotation marks are document 01's.
+-- What the arrays of the evaluation hold, and what each function inside finds. Words in quotation marks are those of docs/FORMAT.md.
 -- Assumes nothing.
 use Rattle.std.specs.Prelude.{ℕ, ◌≤◌, ◌<◌, Bool, true, false, cond, not, ◌&&◌, ◌||◌, List, [], ◌++◌, ◌≡◌, eqb, length, take, get_or, set}
 use Rattle.std.proofs.Math.Option.{Option, some, none}
@@ -9,8 +9,6 @@ use Rattle.book.specs.Blocks.{record_count, records}
 use Rattle.book.specs.Faults.{record_of, is_kind}
 use Rattle.book.specs.Outline.{Book, read, numbers_of}
 use Rattle.book.specs.Trees.{Readable}
-use Rattle.constants.specs.declared.expr.Name.{Name}
-use Rattle.constants.specs.declared.expr.Name.TheVariants.{Nothing, Is}
 use Rattle.constants.specs.Expr.{Expr, expr_at, refs}
 use Rattle.constants.specs.Eval.{Table}
 use Rattle.constants.specs.Order.{Constant, each, has, declares, repeats, admits, ready}
@@ -43,11 +41,6 @@ declared book = constants (read book)
 -- the expression at record n
 abbrev pub expr_of_book : List ℕ → ℕ → Expr
 expr_of_book book n = expr_at 64 (records book) n
-
--- a name, if there is one
-abbrev pub name_of : Name → Option ℕ
-name_of Nothing = none
-name_of (Is n) = some n
 
 -- the names that are marked, among those that an expression names
 abbrev pub marked : List Bool → Expr → List ℕ

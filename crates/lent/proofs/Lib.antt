@@ -1,4 +1,3 @@
-pub mod Appending
 pub mod Entering
 pub mod Structs
 pub mod Ways

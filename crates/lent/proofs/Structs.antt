@@ -1,19 +1,20 @@
 -- Structs as bytes: those of records, of zero ones, and a front of some before the rest of others; structs read from bytes.
 -- Assumes nothing.
-use Prim.Native.Nat.{ℕ, zero, suc, ◌+◌, ◌*◌, ◌-◌, ◌^◌, ◌≤◌, ◌<◌}
+use Prim.Native.Nat.{ℕ, zero, suc, ◌+◌, ◌*◌, ◌^◌, ◌≤◌, ◌<◌}
 use mathlib.Core.List.{List, [], ◌∷◌, ◌++◌, flat_map, map, map-append, append_assoc, append-nil}
 use mathlib.Core.Path.{◌≡◌, refl, sym, ap, ap₂, ◌∙◌}
 use native.Mathlib.Omega.{arith}
+use native.Mathlib.Numerals.{add-one}
 use lib.Dec.{lit<}
-use lib.ListN.{length, drop, replicate, set, length-map, length-replicate, replicate-append-replicate}
-use lib.Seq.{drop-nil, drop_at, drop-drop, set_at}
+use lib.ListN.{length, drop, replicate, length-map, length-replicate, replicate-append-replicate}
+use lib.Seq.{drop-nil, drop_at, drop-drop}
 use Rattle.record.specs.declared.Record.{Record}
 use Rattle.record.specs.Bytes.{little_bytes}
 use Rattle.record.specs.Layout.{Within, decode_record, encode_record}
 use Rattle.record.specs.Write.{with_records, cleared}
 use Rattle.record.proofs.Trips.{encode_length}
 use Rattle.record.proofs.Fronts.{encoded_length}
-use Rattle.book.specs.Lists.{All, up_to}
+use Rattle.book.specs.Lists.{All, up_to, from}
 use Rattle.book.proofs.Lists.{from-length}
 use Rattle.book.proofs.Marks.{up_to_last}
 use Rattle.types.specs.Diagnostic.{IsDiagnostic}
@@ -69,12 +70,6 @@ class_back zero h = refl
 class_back (suc zero) h = refl
 class_back (suc (suc zero)) h = refl
 class_back (suc (suc (suc n))) h = absurd (omega arith)
-
-pub class_other : (n : ℕ) → (n ≡ 0 → ⊥) × (n ≡ 1 → ⊥) → ConstRefNotFound ≡ class_of n
-unfolding class_of
-class_other zero h = absurd (h.0 refl)
-class_other (suc zero) h = absurd (h.1 refl)
-class_other (suc (suc n)) h = refl
 
 record_back : (r : Record) → IsDiagnostic r → record_of (diagnostic_of r) ≡ r
 unfolding record_of diagnostic_of
@@ -224,12 +219,12 @@ module _ (bytes : List ℕ) where
       ∙ ap (map diagnostic_of) (map-append _ (up_to k) (k ∷ []))
       ∙ map-append diagnostic_of (map (λ i. decode_record (drop (24 * i) bytes)) (up_to k)) (decode_record (drop (24 * k) bytes) ∷ [])
 
-  pub read_next :
-      (m k : ℕ) → k < m →
-      set (read_up_to k ++ replicate (m - k) no_diagnostic) k (struct_at k) ≡ read_up_to (suc k) ++ replicate (m - suc k) no_diagnostic
-  read_next m k less =
-      let one : m - k ≡ suc (m - suc k) = omega arith in
-      ap (λ (n : ℕ). set (read_up_to k ++ replicate n no_diagnostic) k (struct_at k)) one
-      ∙ set_at (read_up_to k) no_diagnostic (replicate (m - suc k) no_diagnostic) (struct_at k) k (read_length k)
-      ∙ sym (append_assoc (read_up_to k) (struct_at k ∷ []) (replicate (m - suc k) no_diagnostic))
-      ∙ ap (λ (l : List Diagnostic). l ++ replicate (m - suc k) no_diagnostic) (sym (one_more_lem k))
+  -- none at first, as many as records are read, and one more
+  pub read_none : read_up_to 0 ≡ []
+  unfolding first_records from
+  read_none = refl
+
+  pub read_more : (k : ℕ) → read_up_to k ++ (struct_at k ∷ []) ≡ read_up_to (k + 1)
+  read_more k = sym (one_more_lem k) ∙ ap read_up_to (sym (add-one k))
+
+pub ruleset reading = (read_none, read_length, read_more)

@@ -6,9 +6,8 @@ use Rattle.book.specs.Lists.{All}
 use Rattle.book.specs.Outline.{read}
 use Rattle.types.specs.declared.LowerCtx.{LowerCtx}
 use Rattle.types.specs.Events.{told}
-use Rattle.lower.specs.declared.Reply as code
 use Rattle.lower.specs.LowerBook.{Reply, accepted, refused, lower_book}
-use Rattle.lower.specs.Promise.{reply_of, Lowered}
+use Rattle.lower.specs.Promise.{Answered, reply_of, Lowered}
 use Rattle.lower.specs.Laws.{doings}
 use Rattle.lower.specs.Counters.{numbers_given}
 use Rattle.lent.specs.declared.Diagnostic.{Diagnostic}
@@ -35,13 +34,13 @@ pub record LentRun : Type 0 where
   pub book : List ℕ
   pub results : List ℕ
   pub lent : List Diagnostic
-  pub reply : code.Reply
+  pub reply : Answered
   pub ctx' : LowerCtx
   pub results' : List ℕ
   pub left : List Diagnostic
 
 pub record ByteRun : Type 0 where
-  pub reply : code.Reply
+  pub reply : Answered
   pub results' : List ℕ
   pub diagnostics' : List ℕ
 

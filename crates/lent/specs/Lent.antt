@@ -1,11 +1,10 @@
 -- The lowering with its counters lent, and its diagnostics as a list of structs: the promises of the entry and of the value form below it.
 -- Words in quotation marks are document 01's.
 -- Assumes nothing.
-use Rattle.std.specs.Prelude.{ℕ, ◌-◌, ◌*◌, ◌≤◌, min, cond, List, [], ◌++◌, map, ◌≡◌, ltb, length, drop, replicate}
+use Rattle.std.specs.Prelude.{ℕ, ◌*◌, ◌≤◌, min, cond, List, [], ◌++◌, map, ◌≡◌, ltb, length, drop, replicate}
 use Rattle.types.specs.declared.LowerCtx.{LowerCtx}
-use Rattle.lower.specs.declared.Reply as code
 use Rattle.lower.specs.LowerBook.{Reply, accepted, refused, Outcome, lower_book}
-use Rattle.lower.specs.Promise.{reply_of}
+use Rattle.lower.specs.Promise.{Answered, reply_of}
 use Rattle.lower.specs.Laws.{first_records}
 use Rattle.lower.specs.Counters.{counters_after}
 use Rattle.lent.specs.declared.Diagnostic.{Diagnostic}
@@ -49,18 +48,17 @@ lower_lent ctx book results diagnostics =
 
 -- THE PROMISE of `lower_lent`, for every book, all counters and every two slices: the reply, the counters and both slices at exit are what `lower_lent`
 -- gives for the book, the counters and the slices as lent
-abbrev pub LoweredLent : LowerCtx → List ℕ → List ℕ → List Diagnostic → code.Reply → LowerCtx → List ℕ → List Diagnostic → Type 0
+abbrev pub LoweredLent : LowerCtx → List ℕ → List ℕ → List Diagnostic → Answered → LowerCtx → List ℕ → List Diagnostic → Type 0
 LoweredLent ctx book results diagnostics reply ctx' results' diagnostics' =
     record { reply = reply_of reply; ctx = ctx'; results = results'; diagnostics = diagnostics' }
     ≡ lower_lent ctx book results diagnostics
 
--- the promise of the value form, for a list of so many structs: what `lower_lent` gives for one, the structs at its front in an array of 256, with zero
--- ones behind them. They are no more than the array and the list hold
+-- the promise of the value form, for a list of so many structs: what `lower_lent` gives for one, and the structs at its front, which are no more than
+-- may be told and no more than the list holds
 pub record Stepped (ctx : LowerCtx) (book results : List ℕ) (room : ℕ) (x : Step) (results' : List ℕ) : Type 0 where
   pub reply_is : reply_of x.reply ≡ (as_bytes book results room).reply
   pub ctx_is : x.ctx ≡ counters_after ctx book results (bytes_for room)
   pub results_are : results' ≡ (as_bytes book results room).results
-  pub count_is : x.count ≡ length (front_of book results room)
-  pub told_are : x.told ≡ front_of book results room ++ replicate (256 - x.count) no_diagnostic
-  pub few : x.count ≤ 256
-  pub room_for : x.count ≤ room
+  pub told_are : x.told.items ≡ front_of book results room
+  pub few : length x.told.items ≤ 256
+  pub room_for : length x.told.items ≤ room

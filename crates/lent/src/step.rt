@@ -1,132 +1,98 @@
-// The lowering with its counters and its diagnostics by value.
+//! The lowering with its counters and its diagnostics by value.
 
-ghost use Rattle.std.specs.Prelude.{◌≡◌, List, ◌++◌, map, ℕ, ◌-◌, ◌≤◌, min, length, replicate};
+ghost use Rattle.std.specs.Prelude.{◌≡◌, List, map, ℕ, ◌≤◌, length};
 ghost use Rattle.lower.specs.Laws.{first_records};
 ghost use Rattle.lower.specs.Promise.{reply_of};
-ghost use Rattle.lent.specs.Diagnostics.{class_of, diagnostic_of, no_diagnostic};
-ghost use Rattle.lent.specs.Lent.{bytes_for, front, Stepped};
+ghost use Rattle.lent.specs.Diagnostics.{class_of, diagnostic_of};
+ghost use Rattle.lent.specs.Lent.{front, Stepped};
 
 use crate::{Diagnostic, ErrorClass, MOST};
-use lower::Reply;
-use record::{Record, Span, write};
+use arrayvec::ArrayVec;
+use lower::{Counted, Counts};
+use record::refusal::{Cause, Refusal};
+use record::{Record, write};
 use types::LowerCtx;
 
 // A record's bytes.
 const RECORD_BYTES: usize = 24;
 
-// What lowering a book gives: the counters, the reply, and the diagnostics, so many at the front and zero ones behind them.
-#[derive(Clone, Copy)]
+/// What lowering a book gives: the counters, the reply, and the diagnostics.
+#[derive(Drop)]
 pub struct Step {
     pub ctx: LowerCtx,
-    pub reply: Reply,
-    pub count: usize,
-    pub told: [Diagnostic; MOST],
+    pub reply: Result<Counts, Refusal>,
+    pub told: ArrayVec<Diagnostic, MOST>,
 }
 
-// The class of a diagnostic by its number.
-fn class_of(v: u64) -> ErrorClass
-    ensures { result ≡ class_of v }
-{
-    match v {
-        0 => ErrorClass::UnresolvedType,
-        1 => ErrorClass::AliasTargetNotFound,
-        _ => ErrorClass::ConstRefNotFound,
+impl From<u64> for ErrorClass {
+    ghost from_gives = { λ v class. class ≡ class_of v };
+
+    /// The class of a diagnostic by its number.
+    #[tactic(auto, unfolding(crate::specs::Diagnostics::class_of))]
+    fn from(v: u64) -> Self {
+        match v {
+            0 => ErrorClass::UnresolvedType,
+            1 => ErrorClass::AliasTargetNotFound,
+            _ => ErrorClass::ConstRefNotFound,
+        }
     }
 }
 
-// The struct that a diagnostic record is.
-fn diagnostic_of(r: Record) -> Diagnostic
-    ensures { result ≡ diagnostic_of r }
-{
-    let span = r.span;
-    Diagnostic {
-        kind: r.kind,
-        message: r.sub,
-        name: r.a,
-        member: r.b,
-        class: class_of(r.v),
-        span,
+impl From<Record> for Diagnostic {
+    ghost from_gives = { λ r d. d ≡ diagnostic_of r };
+
+    /// The struct that a diagnostic record is.
+    #[tactic(auto, unfolding(crate::specs::Diagnostics::diagnostic_of))]
+    fn from(r: Record) -> Self {
+        Diagnostic {
+            kind: r.kind,
+            message: r.sub,
+            name: r.a,
+            member: r.b,
+            class: ErrorClass::from(r.v),
+            span: r.span,
+        }
     }
 }
 
-// The structs of the first n records of a slice, and zero ones behind them.
-fn structs(bytes: &[u8], n: u16) -> [Diagnostic; MOST]
-    requires { n ≤ 256 }
-    ensures { result ≡ map diagnostic_of (first_records n bytes.now) ++ replicate (256 - n) no_diagnostic }
+// The structs of the first n records of a slice.
+#[tactic(auto, using(crate::proofs::Structs::reading))]
+fn structs(bytes: &[u8], n: u16) -> ArrayVec<Diagnostic, MOST>
+    requires { n ≤ MOST }
+    ensures { result.items ≡ map diagnostic_of (first_records n bytes.now) }
 {
-    let mut told = [Diagnostic {
-        kind: 0,
-        message: 0,
-        name: 0,
-        member: 0,
-        class: ErrorClass::UnresolvedType,
-        span: Span { offset: 0, len: 0 },
-    }; MOST];
-    let mut k: u16 = 0;
-    while k < n {
-        told[k as usize] = diagnostic_of(write::written_at(bytes, k));
-        k += 1;
+    let mut told = ArrayVec::new();
+    for k in 0..n {
+        told.push(Diagnostic::from(write::written_at(bytes, k)));
     }
     told
-}
-
-// The most diagnostics that are told to a list of so many.
-fn limit(room: usize) -> u16
-    ensures { result ≡ min 256 room }
-{
-    if room < MOST {
-        room as u16
-    } else {
-        MOST as u16
-    }
 }
 
 // How many structs are written at the front of a list: the diagnostics of a book that is accepted, as many zero ones as
 // may be told on 9 and 10, and none on 1 to 8.
 #[tactic(auto, using(crate::proofs::Ways::counts), unfolding(lower::specs::Promise::reply_of))]
-fn written(reply: Reply, room: usize) -> u16
+fn written(reply: Result<Counts, Refusal>, room: usize) -> u16
     ensures { (bytes : List ℕ) → result ≡ length (front (reply_of reply) bytes room) }
 {
     match reply {
-        Reply::Accepted { diagnostics, .. } => diagnostics,
-        Reply::Refused { cause, .. } => {
-            if lower::number(cause) < 9 {
-                0
-            } else {
-                limit(room)
-            }
-        }
+        Ok(counts) => counts.diagnostics,
+        Err(refusal) => match refusal.cause {
+            Cause::TooDeep | Cause::Full => MOST.min(room) as u16,
+            _ => 0,
+        },
     }
 }
 
-// Lowers a book for a list of so many diagnostics, through 24 zeros for each that may be told.
-fn lower_through(
-    ctx: LowerCtx,
-    book: &[u8],
-    results: &mut [u8],
-    bytes: &mut [u8],
-    room: usize,
-) -> Step
-    requires { bytes.old ≡ bytes_for (min 256 room) }
-    ensures { Stepped ctx book.now results.old room result results.new }
-{
-    let behind = lower::lower_counted(ctx, book, results, bytes);
-    let after = behind.ctx;
-    let reply = behind.reply;
-    let n = written(reply, room);
-    Step {
-        ctx: after,
-        reply,
-        count: n as usize,
-        told: structs(bytes, n),
-    }
-}
-
-// Lowers a book for a list of so many diagnostics.
+/// Lowers a book for a list of so many diagnostics, through 24 zeros for each that may be told.
 pub fn lower_step(ctx: LowerCtx, book: &[u8], results: &mut [u8], room: usize) -> Step
     ensures { Stepped ctx book.now results.old room result results.new }
 {
-    let mut bytes = [0u8; RECORD_BYTES * MOST];
-    let end = RECORD_BYTES * (limit(room) as usize);
-    lower_through(ctx, book, results, &mut bytes[..end], room)
+    let mut zeros = [0u8; RECORD_BYTES * MOST];
+    let bytes = &mut zeros[..RECORD_BYTES * MOST.min(room)];
+    let Counted { ctx: after, reply } = lower::lower_counted(ctx, book, results, bytes);
+    Step {
+        ctx: after,
+        reply,
+        told: structs(bytes, written(reply, room)),
+    }
 }

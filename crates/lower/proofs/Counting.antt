@@ -1,64 +1,77 @@
--- How many of the reached constants are stored, counted one after the other.
+-- How many of the reached constants are stored, and how many there are.
 -- Assumes nothing.
-use Prim.Native.Nat.{ℕ, zero, suc, ◌+◌, ◌≤◌}
-use mathlib.Core.Bool.{Bool, true, false, cond}
-use mathlib.Core.List.{List, [], ◌∷◌, map}
-use mathlib.Core.Option.{Option, some, none}
-use mathlib.Core.Path.{◌≡◌, refl, sym, ap, ◌∙◌}
-use native.Mathlib.Numerals.{add-one}
-use native.Mathlib.Omega.{arith}
-use lib.IntN.{ℤ}
-use lib.ListN.{take, get_or}
-use Rattle.constants.specs.Order.{Settled}
-use Rattle.constants.specs.Evaluated.{has_value}
+use Rattle.std.proofs.Common.{◌≡◌, ℕ, zero, suc, ◌+◌, ◌≤◌, Bool, true, false, cond, List, [], ◌∷◌, length, map, refl}
+use Rattle.std.proofs.Common.{sym, ap, ◌∙◌, arith}
+use Rattle.std.proofs.lemmas.List.{length-map}
+use Rattle.std.specs.Prelude.{count_by, ℤ}
+use Rattle.std.proofs.lemmas.List.Sums.{sum_by-cons}
+use Rattle.std.proofs.Math.Option.{Option, some, none}
+use Rattle.book.specs.Lists.{find, from}
+use Rattle.book.specs.Faults.{is_kind}
+use Rattle.book.specs.Outline.{Book, ◌!◌, numbers_of}
+use Rattle.book.proofs.Lists.{keep-length, from-length}
+use Rattle.constants.specs.Eval.{Table, store, eval_const_expr, empty}
+use Rattle.constants.specs.Order.{Constant, Settled, Way, each, ready, order_from, order, settle, outcome}
+use Rattle.constants.specs.OfBook.{constants, constant_at, settled}
 use Rattle.bodies.specs.Constant.{stored_count}
 
--- how many of a list are true
-unfoldable pub trues : List Bool → ℕ
-trues [] = 0
-trues (b ∷ l) = cond b (suc (trues l)) (trues l)
+-- a test of what stands for a constant, whether it has a value
+module _ {X : Type 0} (f : Settled → X) (p : X → Bool)
+    (without : (c : Settled) → c.value ≡ none → p (f c) ≡ false) (with : (c : Settled) (z : ℤ) → c.value ≡ some z
+    → p (f c) ≡ true) where
+  one_more : (c : Settled) (cs : List Settled)
+      → stored_count (c ∷ cs) ≡ cond (p (f c)) (1 + stored_count cs) (stored_count cs)
+  unfolding stored_count
+  one_more c cs = go (p (f c)) c.value (without c) (with c)
+    where
+      go :
+          (b : Bool) (o : Option ℤ) → (o ≡ none → b ≡ false) → ((z : ℤ) → o ≡ some z → b ≡ true) →
+          stored_count (record { constant = c.constant; value = o } ∷ cs)
+          ≡ cond b (1 + stored_count cs) (stored_count cs)
+      go b none without_is with_is = rw (without_is refl) refl
+      go b (some z) without_is with_is = let s : suc (stored_count cs)
+          ≡ 1 + stored_count cs = omega arith in rw (with_is z refl) s
 
--- one more is looked at
-trues_next : (l : List Bool) (k : ℕ) → trues (take (k + 1) l) ≡ cond (get_or l k false) (trues (take k l) + 1) (trues (take k l))
-unfolding trues
-trues_next l k = rw (add-one k, add-one (trues (take k l))) (go l k)
+  -- as many pass it as are stored
+  pub counts_stored : (cs : List Settled) → count_by p (map f cs) ≡ stored_count cs
+  unfolding stored_count
+  counts_stored [] = refl
+  counts_stored (c ∷ cs) =
+      sum_by-cons (λ x. cond (p x) 1 0) (f c) (map f cs)
+      ∙ ap (λ (n : ℕ). cond (p (f c)) 1 0 + n) (counts_stored cs)
+      ∙ either (p (f c)) (stored_count cs)
+      ∙ sym (one_more c cs)
+    where
+      either : (b : Bool) (n : ℕ) → cond b 1 0 + n ≡ cond b (1 + n) n
+      either true n = refl
+      either false n = omega arith
+
+settle-length : (t : Table) (cs : List Constant) → length (settle t cs) ≡ length cs
+unfolding settle
+settle-length t [] = refl
+settle-length t (c ∷ cs) = ap suc (settle-length (store t c.name (eval_const_expr t c.expr)) cs)
+
+order-length : (most : ℕ) (w : Way) (cs : List Constant) (done : List ℕ) → length (order_from most w cs done) ≤ most
+unfolding order_from
+order-length zero w cs done = omega arith
+order-length (suc most) w cs done = go (find (ready w cs done) cs) (λ c. order-length most w cs (c.name ∷ done))
   where
-    go : (l : List Bool) (k : ℕ) → trues (take (suc k) l) ≡ cond (get_or l k false) (suc (trues (take k l))) (trues (take k l))
-    go [] zero = refl
-    go [] (suc k) = refl
-    go (b ∷ l) zero = refl
-    go (true ∷ l) (suc k) = ap suc (go l k) ∙ within (get_or l k false) (trues (take k l))
-      where
-        within : (b : Bool) (n : ℕ) → suc (cond b (suc n) n) ≡ cond b (suc (suc n)) (suc n)
-        within true n = refl
-        within false n = refl
-    go (false ∷ l) (suc k) = go l k
+    go :
+        (o : Option Constant) → ((c : Constant) → length (order_from most w cs (c.name ∷ done)) ≤ most) →
+        length {A = Constant} (elim o [ none ↦ [] | some c ↦ c ∷ order_from most w cs (c.name ∷ done) ]) ≤ suc most
+    go none few = omega arith
+    go (some c) few = omega (arith, few c)
 
--- it is true, or it is not
-module _ (l : List Bool) (k : ℕ) {n : ℕ} (before : n ≡ trues (take k l)) where
-  pub trues_on : get_or l k false ≡ true → n + 1 ≡ trues (take (k + 1) l)
-  trues_on e = sym (trues_next l k ∙ rw (e, before))
-
-  pub trues_same : get_or l k false ≡ false → n ≡ trues (take (k + 1) l)
-  trues_same e = sym (trues_next l k ∙ rw (e, before))
-
--- no more than were looked at
-pub trues_few : (l : List Bool) (k : ℕ) → trues (take k l) ≤ k
-unfolding trues
-trues_few l zero = omega arith
-trues_few [] (suc k) = omega arith
-trues_few (true ∷ l) (suc k) = omega (arith, trues_few l k)
-trues_few (false ∷ l) (suc k) = omega (arith, trues_few l k)
-
--- the stored constants are those of which it is true that they have a value
-pub stored_trues : (cs : List Settled) → stored_count cs ≡ trues (map (λ x. has_value x.value) cs)
-unfolding stored_count trues has_value
-stored_trues [] = refl
-stored_trues (c ∷ cs) = go c.value refl (stored_trues cs)
-  where
-    after : ℕ
-    after = trues (map (λ x. has_value x.value) cs)
-
-    go : (o : Option ℤ) → c.value ≡ o → stored_count cs ≡ after → stored_count (c ∷ cs) ≡ cond (has_value c.value) (suc after) after
-    go none e same = rw e same
-    go (some z) e same = rw e (ap suc same)
+-- no more are reached than there are records
+pub few_settled : (book : Book) → length (settled book) ≤ length book.records
+unfolding settled outcome order constants numbers_of
+few_settled book =
+    let cs : List Constant = constants book in
+    omega (
+      arith,
+      settle-length empty (order each cs),
+      order-length (length cs) each cs [],
+      length-map (numbers_of (is_kind 24) book) (constant_at book),
+      keep-length (λ n. is_kind 24 (book ! n)) (from 0 (length book.records)),
+      from-length 0 (length book.records),
+    )

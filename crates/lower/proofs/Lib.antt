@@ -3,8 +3,9 @@ pub mod Written
 pub mod Laws
 pub mod Told
 pub mod Demand3
-pub mod Parting
 pub mod Sizes
 pub mod Counting
 pub mod Ending
+pub mod Reading
+pub mod Whole
 pub mod Runs

@@ -1,9 +1,9 @@
 -- Demand 3 holds of every run of `lower_book`: by its promise, what a run answered and left is what `lower_book` gives.
 -- Assumes nothing.
 use mathlib.Core.Path.{◌≡◌, refl, sym, ap, subst}
-use Rattle.lower.specs.declared.Reply.TheVariants.{Accepted}
+use Rattle.std.specs.Prelude.{Ok}
 use Rattle.lower.specs.LowerBook.{Reply, Outcome, lower_book}
-use Rattle.lower.specs.Promise.{reply_of, outcome_of}
+use Rattle.lower.specs.Promise.{Answered, reply_of, outcome_of}
 use Rattle.lower.specs.Laws.{Leaves}
 use Rattle.lower.specs.Runs.{Demand3OverRuns, RunsLeave, AcceptedHaveRuns}
 use Rattle.lower.proofs.Laws.{slices_are_left}
@@ -32,13 +32,14 @@ pub accepted_have_runs : AcceptedHaveRuns
 unfolding reply_of
 accepted_have_runs book results diagnostics bytes is =
     let x : Outcome = lower_book book results diagnostics in
-    let same : outcome_of (Accepted is.results is.diagnostics is.constants) x.results x.diagnostics ≡ x =
+    let answer : Answered = Ok (record { results = is.results; diagnostics = is.diagnostics; constants = is.constants }) in
+    let same : outcome_of answer x.results x.diagnostics ≡ x =
     ap (λ (y : Reply). record { reply = y; results = x.results; diagnostics = x.diagnostics }) (sym is.reply) in (
       record {
         book = book;
         results = results;
         diagnostics = diagnostics;
-        reply = Accepted is.results is.diagnostics is.constants;
+        reply = answer;
         results' = x.results;
         diagnostics' = x.diagnostics;
         are_bytes = bytes;

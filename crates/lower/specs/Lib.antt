@@ -1,6 +1,7 @@
 pub mod LowerBook
 pub mod Promise
 pub mod Counters
+pub mod Inside
 pub mod Ended
 pub mod Written
 pub mod Laws

@@ -1,33 +1,27 @@
--- The promises of `lower_book` and of the exported function, and what the enums of the code say. Words in quotation marks are document 01's.
+-- The promises of `lower_book` and of the exported function, and what the answer of the code says.
 -- Assumes nothing.
-use Rattle.std.specs.Prelude.{ℕ, List, [], ◌∷◌, ◌≡◌}
-use Rattle.book.specs.Refusal.{number}
-use Rattle.book.specs.Answer.{cause_of}
-use Rattle.types.specs.Lowering.{stop_number}
-use Rattle.types.specs.Standing.{stop_of}
-use Rattle.lower.specs.declared.Cause.{Cause}
-use Rattle.lower.specs.declared.Cause.TheVariants.{Reading, Lowering}
-use Rattle.lower.specs.declared.Reply as code
-use Rattle.lower.specs.declared.Reply.TheVariants.{Accepted, Refused}
+use Rattle.std.specs.Prelude.{ℕ, List, [], ◌∷◌, ◌≡◌, Result, Ok, Err}
+use Rattle.record.specs.Refused.{number_of}
+use Rattle.record.specs.declared.refusal.Refusal.{Refusal}
+use Rattle.lower.specs.declared.Counts.{Counts}
 use Rattle.lower.specs.LowerBook.{Reply, accepted, refused, Outcome, lower_book}
 
--- "Number", by the row that a cause stands for: 1 to 8 are found by reading, 9 and 10 by lowering
-unfoldable pub cause_number : Cause → ℕ
-cause_number (Reading c) = number (cause_of c)
-cause_number (Lowering c) = stop_number (stop_of c)
+-- what the code answers: three counts, or why and where the book is turned back
+abbrev pub Answered : Type 0
+Answered = Result Counts Refusal
 
--- what is answered: "the counts of results, diagnostics and stored constants", or "Number" and "Returned place"
-unfoldable pub reply_of : code.Reply → Reply
-reply_of (Accepted results diagnostics constants) = accepted results diagnostics constants
-reply_of (Refused cause place) = refused (cause_number cause) place
+-- the reply: the counts of results, diagnostics and stored constants, or the number of the cause and the place
+unfoldable pub reply_of : Answered → Reply
+reply_of (Ok counts) = accepted counts.results counts.diagnostics counts.constants
+reply_of (Err refusal) = refused (number_of refusal.cause) refusal.place
 
 -- what was answered, and what the two slices hold then
-abbrev pub outcome_of : code.Reply → List ℕ → List ℕ → Outcome
+abbrev pub outcome_of : Answered → List ℕ → List ℕ → Outcome
 outcome_of reply results diagnostics = record { reply = reply_of reply; results = results; diagnostics = diagnostics }
 
 -- THE PROMISE of `lower_book`, for every book and every two slices: the reply and both slices at exit are what `lower_book` gives for the book and the
 -- slices as lent
-abbrev pub Lowered : List ℕ → List ℕ → List ℕ → code.Reply → List ℕ → List ℕ → Type 0
+abbrev pub Lowered : List ℕ → List ℕ → List ℕ → Answered → List ℕ → List ℕ → Type 0
 Lowered book results diagnostics reply results' diagnostics' =
     outcome_of reply results' diagnostics' ≡ lower_book book results diagnostics
 

@@ -5,9 +5,8 @@
 use Rattle.std.specs.Prelude.{ℕ, List, ◌≡◌}
 use Rattle.record.specs.Bytes.{AreBytes}
 use Rattle.constants.specs.Demand3.{DeclaresAllOf}
-use Rattle.lower.specs.declared.Reply as code
 use Rattle.lower.specs.LowerBook.{Outcome, lower_book}
-use Rattle.lower.specs.Promise.{reply_of, outcome_of, Lowered}
+use Rattle.lower.specs.Promise.{Answered, reply_of, outcome_of, Lowered}
 use Rattle.lower.specs.Laws.{Leaves, IsAccepted}
 use Rattle.lower.specs.Demand3.{OfEach, OfBoth}
 
@@ -16,7 +15,7 @@ pub record Run : Type 0 where
   pub book : List ℕ
   pub results : List ℕ
   pub diagnostics : List ℕ
-  pub reply : code.Reply
+  pub reply : Answered
   pub results' : List ℕ
   pub diagnostics' : List ℕ
   -- a book is bytes

@@ -1,70 +1,35 @@
-// The lowering of a signal book.
+//! The lowering of a signal book: from a lent book into two lent slices, results and diagnostics.
 
 #![tactic(auto)]
 
 ghost use Rattle.std.specs.Prelude.{◌≡◌};
-ghost use Rattle.types.specs.Lowering.{stop_number};
-ghost use Rattle.types.specs.Standing.{stop_of};
-ghost use Rattle.lower.specs.Promise.{cause_number, reply_of, reply_words, Lowered, Exported};
+ghost use Rattle.lower.specs.Promise.{reply_of, reply_words, Lowered, Exported};
 ghost use Rattle.lower.specs.Counters.{counters_after};
 
-mod ahead;
+pub mod claims;
 mod parts;
 
-use book::Reading;
-use types::{LowerCtx, Stop};
+use book::Book;
+use record::refusal::Refusal;
+use types::LowerCtx;
 
-// Why a book is turned back: found by reading it, causes 1 to 8, or by lowering it, 9 and 10.
-#[derive(Clone, Copy)]
-pub enum Cause {
-    Reading(book::Cause),
-    Lowering(Stop),
+/// What the lowering of an accepted book counts: results and diagnostics written, constants stored.
+#[derive(Clone, Copy, Debug, PartialEq, Eq, Hash)]
+pub struct Counts {
+    pub results: u16,
+    pub diagnostics: u16,
+    pub constants: u16,
 }
 
-// What lowering a book gives: how many results and diagnostics were written and how many constants are stored; or why
-// and where it is turned back.
-#[derive(Clone, Copy)]
-pub enum Reply {
-    Accepted {
-        results: u16,
-        diagnostics: u16,
-        constants: u16,
-    },
-    Refused {
-        cause: Cause,
-        place: u16,
-    },
-}
-
-// The counters behind the lowering of a book, and the reply.
+/// The counters behind the lowering of a book, and the reply.
 #[derive(Clone, Copy)]
 pub struct Counted {
     pub ctx: LowerCtx,
-    pub reply: Reply,
+    pub reply: Result<Counts, Refusal>,
 }
 
-// The number of a cause that is found by lowering.
-fn stop_number(stop: Stop) -> u8
-    ensures { result ≡ stop_number (stop_of stop) }
-{
-    match stop {
-        Stop::TooDeep => 9,
-        Stop::Full => 10,
-    }
-}
-
-// The number of a cause.
-pub fn number(cause: Cause) -> u8
-    ensures { result ≡ cause_number cause }
-{
-    match cause {
-        Cause::Reading(found) => book::number(found),
-        Cause::Lowering(stop) => stop_number(stop),
-    }
-}
-
-// Lowers a book: any bytes at all, into two slices of any lengths, with the counters by value. They are handed back where
-// causes 1 to 8 turn the book back, and else count from 0: numbers given, results and diagnostics written.
+/// Lowers a book: any bytes at all, into two slices of any lengths, with the counters by value. They are handed back
+/// where causes 1 to 8 turn the book back, and else count from 0: numbers given, results and diagnostics written.
 pub fn lower_counted(
     ctx: LowerCtx,
     book: &[u8],
@@ -74,23 +39,22 @@ pub fn lower_counted(
     ensures lowered { Lowered book.now results.old diagnostics.old result.reply results.new diagnostics.new }
     ensures ctx_value { result.ctx ≡ counters_after ctx book.now results.old diagnostics.old }
 {
-    match book::read_book(book) {
-        Reading::Accepted { records, wildcards } => {
-            parts::lower_read(book, records, wildcards, results, diagnostics)
-        }
-        Reading::Refused { cause, place } => Counted {
+    match Book::read(book) {
+        Ok(book) => parts::lower_read(&book, results, diagnostics),
+        Err(refusal) => Counted {
             ctx,
-            reply: Reply::Refused {
-                cause: Cause::Reading(cause),
-                place,
-            },
+            reply: Err(refusal),
         },
     }
 }
 
-// Lowers a book: any bytes at all, into two slices of any lengths. Results and diagnostics are written from the front of
-// each. A book that causes 1 to 8 turn back leaves both as they were; 9 and 10 leave zeros up to the limits.
-pub fn lower_book(book: &[u8], results: &mut [u8], diagnostics: &mut [u8]) -> Reply
+/// Lowers a book: any bytes at all, into two slices of any lengths. Results and diagnostics are written from the front
+/// of each. A book that causes 1 to 8 turn back leaves both as they were; 9 and 10 leave zeros up to the limits.
+pub fn lower_book(
+    book: &[u8],
+    results: &mut [u8],
+    diagnostics: &mut [u8],
+) -> Result<Counts, Refusal>
     ensures { Lowered book.now results.old diagnostics.old result results.new diagnostics.new }
 {
     let ctx = LowerCtx {
@@ -98,25 +62,32 @@ pub fn lower_book(book: &[u8], results: &mut [u8], diagnostics: &mut [u8]) -> Re
         results: 0,
         diagnostics: 0,
     };
-    let behind = lower_counted(ctx, book, results, diagnostics);
-    behind.reply
+    lower_counted(ctx, book, results, diagnostics).reply
 }
 
-// The reply as four words: 0 and the three counts; or the number of the cause, the place, and zeros.
-fn reply_words(reply: Reply) -> [u64; 4]
+/// The reply as four words: 0 and the three counts; or the number of the cause, the place, and zeros.
+#[tactic(auto, unfolding(crate::specs::Promise::reply_of, crate::specs::Promise::reply_words))]
+pub fn reply_words(reply: Result<Counts, Refusal>) -> [u64; 4]
     ensures { result ≡ reply_words (reply_of reply) }
 {
     match reply {
-        Reply::Accepted {
-            results,
-            diagnostics,
-            constants,
-        } => [0, results as u64, diagnostics as u64, constants as u64],
-        Reply::Refused { cause, place } => [number(cause) as u64, place as u64, 0, 0],
+        Ok(
+            Counts {
+                results,
+                diagnostics,
+                constants,
+            },
+        ) => [
+            0,
+            u64::from(results),
+            u64::from(diagnostics),
+            u64::from(constants),
+        ],
+        Err(Refusal { cause, place }) => [u64::from(cause.number()), u64::from(place), 0, 0],
     }
 }
 
-// Lowers a book for a caller in Rust or C, with the reply in four words: `lower_c` exports it.
+/// Lowers a book for a caller in Rust or C, with the reply in four words: `lower_c` exports it.
 pub fn signal_book_lower(
     book: &[u8],
     results: &mut [u8],

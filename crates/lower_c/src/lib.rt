@@ -1,10 +1,10 @@
-// The lowering of a signal book as a static library: its one export, for a caller in Rust or C.
+//! The lowering of a signal book as a static library: its one export, for a caller in Rust or C.
 
 #![tactic(auto)]
 
 ghost use Rattle.lower.specs.Promise.{Exported};
 
-// Lowers a book, with the reply in four words.
+/// Lowers a book, with the reply in four words.
 #[unsafe(no_mangle)]
 pub extern "C" fn signal_book_lower(
     book: &[u8],

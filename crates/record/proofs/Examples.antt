@@ -1,4 +1,4 @@
--- The definitions at work: the example of RFC 1071, section 3, and places of records as document 01 gives them.
+-- The definitions at work: the example of RFC 1071, section 3, and where records of a book stand.
 -- Assumes nothing.
 use Prim.Native.Nat.{ℕ}
 use mathlib.Core.List.{List, [], ◌∷◌}

@@ -24,7 +24,7 @@ encoded_length (r ∷ rs) =
     let b : length (flat_map encode_record rs) ≡ 24 * length rs = encoded_length rs in
     length-append (encode_record r) (flat_map encode_record rs) ∙ omega arith
 
-encoded_more : (rs : List Record) (r : Record) → flat_map encode_record (rs ++ (r ∷ [])) ≡ flat_map encode_record rs ++ encode_record r
+pub encoded_more : (rs : List Record) (r : Record) → flat_map encode_record (rs ++ (r ∷ [])) ≡ flat_map encode_record rs ++ encode_record r
 unfolding flat_map
 encoded_more [] r = append-nil (encode_record r)
 encoded_more (x ∷ rs) r =

@@ -3,6 +3,7 @@ pub mod Pads
 pub mod Trips
 pub mod Sums
 pub mod Writes
-pub mod Clears
 pub mod Fronts
+pub mod Codes
+pub mod Pushes
 mod Examples

@@ -77,6 +77,38 @@ halves_at k s at l h = halves k (drop at s) (drop (at + k) s) l (sym (drop-drop 
 pub one_at : (s : List ℕ) (at : ℕ) → get_or s at 0 ≡ little_endian 1 (drop at s)
 one_at s at = sym (one_there (drop at s) ∙ get_or-drop at s 0 0 ∙ ap (λ (i : ℕ). get_or s i 0) (add-zero at))
 
+-- two, four and eight bytes from a place on, each as heavy as it stands
+pub two_at : (s : List ℕ) (at : ℕ) → get_or s at 0 + get_or s (at + 1) 0 * 256 ≡ little_endian 2 (drop at s)
+two_at s at = omega (arith, halves_at 1 s at (one_at s at) (one_at s (at + 1)))
+
+pub four_at :
+    (s : List ℕ) (at : ℕ) →
+    get_or s at 0 + get_or s (at + 1) 0 * 256 + get_or s (at + 2) 0 * 65536 + get_or s (at + 3) 0 * 16777216
+    ≡ little_endian 4 (drop at s)
+four_at s at =
+    let e : at + 2 + 1 ≡ at + 3 = omega arith in
+    omega (arith, rw e at (halves_at 2 s at (two_at s at) (two_at s (at + 2))))
+
+pub eight_at :
+    (s : List ℕ) (at : ℕ) →
+    get_or s at 0 + get_or s (at + 1) 0 * 256 + get_or s (at + 2) 0 * 65536 + get_or s (at + 3) 0 * 16777216
+    + get_or s (at + 4) 0 * 4294967296 + get_or s (at + 5) 0 * 1099511627776
+    + get_or s (at + 6) 0 * 281474976710656 + get_or s (at + 7) 0 * 72057594037927936
+    ≡ little_endian 8 (drop at s)
+eight_at s at =
+    let e : at + 4 + 1 ≡ at + 5 = omega arith in
+    let f : at + 4 + 2 ≡ at + 6 = omega arith in
+    let g : at + 4 + 3 ≡ at + 7 = omega arith in
+    omega (arith, rw (e, f, g) at (halves_at 4 s at (four_at s at) (four_at s (at + 4))))
+
+-- and at the front
+pub two_there : (s : List ℕ) → get_or s 0 0 + get_or s 1 0 * 256 ≡ little_endian 2 s
+two_there s = two_at s 0
+
+pub four_there :
+    (s : List ℕ) → get_or s 0 0 + get_or s 1 0 * 256 + get_or s 2 0 * 65536 + get_or s 3 0 * 16777216 ≡ little_endian 4 s
+four_there s = four_at s 0
+
 -- a number is told by its bytes alone
 front : (n : ℕ) (s : List ℕ) → little_endian (suc n) s ≡ get_or s 0 0 + 256 * little_endian n (drop 1 s)
 unfolding little_endian
@@ -121,3 +153,5 @@ bytes_append {s} {t} p q = record { byte = go s p }
 
 pub bytes_drop : {s : List ℕ} (n : ℕ) → AreBytes s → AreBytes (drop n s)
 bytes_drop {s} n each = record { byte = λ i. rw (get_or-drop n s i 0) (each.byte (n + i)) }
+
+pub ruleset places = (one_at, two_at, four_at, eight_at)

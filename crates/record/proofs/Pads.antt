@@ -2,22 +2,13 @@
 -- Assumes nothing.
 use Prim.Native.Nat.{ℕ, ◌+◌, ◌<◌, ◌≤◌}
 use mathlib.Core.List.{List}
-use mathlib.Core.Path.{◌≡◌, ◌∙◌}
+use mathlib.Core.Path.{◌≡◌}
 use native.Mathlib.Omega.{arith}
-use lib.ListN.{length, drop, set, get_or}
-use lib.Seq.{get_or-drop, get_or-set_same, get_or-set_other}
-use borrow.Author.Count.{below_more}
+use lib.ListN.{drop, get_or}
+use lib.Seq.{get_or-drop}
 use Rattle.record.specs.Bytes.{little_endian}
 use Rattle.record.specs.Layout.{decode_record}
 use Rattle.record.proofs.Numbers.{same_number}
-
--- one byte more
-pub fills :
-    (x rest : List ℕ) (i v : ℕ) → i < length x →
-    ((j : ℕ) → j < i → get_or x j 0 ≡ get_or rest j 0) → v ≡ get_or rest i 0 →
-    (j : ℕ) → j < i + 1 → get_or (set x i v) j 0 ≡ get_or rest j 0
-fills x rest i v less before here =
-    below_more _ i (λ j below. get_or-set_other x i j v 0 (λ e. omega arith) ∙ before j below) (get_or-set_same x i v 0 less ∙ here)
 
 pub same_record : (s t : List ℕ) → ((j : ℕ) → j < 24 → get_or s j 0 ≡ get_or t j 0) → decode_record s ≡ decode_record t
 unfolding decode_record

@@ -176,3 +176,5 @@ module _ (book : List ℕ) (k : ℕ) where
   pub check_late : (sum : ℕ) → SumsUp (drop (512 * k) book) sum → 65535 - once (once (once sum)) ≡ block_check book k
   unfolding block_check checksum
   check_late sum up = rw (up.folds, check_words)
+
+pub ruleset lates = (check_late, thrice_below)

@@ -1,5 +1,4 @@
--- The check of a block, from RFC 1071 (the Internet checksum), whose steps (1) and (2) are said here in other words. Words in quotation
--- marks are document 01's.
+-- The check of a block, from RFC 1071 (the Internet checksum), whose steps (1) and (2) are said here in other words.
 -- Assumes nothing.
 use Rattle.std.specs.Prelude.{ℕ, ◌+◌, ◌-◌, ◌*◌, ◌/◌, ◌%◌, ◌^◌, ◌<◌, Bool, List, [], ◌∷◌, ◌≡◌, eqb, take, drop, get_or}
 
@@ -44,7 +43,7 @@ pub record SumsUp (s : List ℕ) (sum : ℕ) : Type 0 where
   pub folds : once (once (once sum)) ≡ ones_sum (take 255 (words s))
   pub small : sum < 2 ^ 39
 
--- What is claimed of document 01's way to the same check, "add the first 255, fold carries into 16 bits until none is left, invert all
+-- What is claimed of another way to the same check, "add the first 255, fold carries into 16 bits until none is left, invert all
 -- bits": of the sum of the first 255 words none is left after two folds, and the inverted rest is the checksum of RFC 1071. The proof is in
 -- proofs/Sums.antt.
 abbrev pub FoldedLate : Type 0

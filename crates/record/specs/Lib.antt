@@ -1,6 +1,10 @@
 pub mod Bytes
+pub mod Kind
+pub mod Made
 pub mod Layout
 pub mod Trips
 pub mod Named
 pub mod Check
 pub mod Write
+pub mod Written
+pub mod Refused

@@ -1,52 +1,40 @@
-// The check of a block: RFC 1071 over its first 255 big-endian words.
+//! The check of a block: RFC 1071 over its first 255 big-endian words.
 
-ghost use Rattle.std.specs.Prelude.{◌≡◌, ◌+◌, ◌*◌, ◌^◌, ◌≤◌, ◌<◌, length, get_or};
+ghost use Rattle.std.specs.Prelude.{◌≡◌, ◌+◌, ◌*◌, ◌^◌, ◌≤◌, length, slice_index};
 ghost use Rattle.record.specs.Check.{words, once, SumsUp, block_check, check_holds};
 
 use crate::{BLOCK_BYTES, bytes};
 
-// Word k of s.
+// Word k of s. A byte past the end counts as 0.
+#[tactic(auto, using(crate::proofs::Sums::word_at))]
 fn word_at(s: &[u8], k: u16) -> u16
-    ensures { result ≡ get_or (words s.now) k 0 }
+    ensures { result ≡ slice_index (words s.now) k }
 {
-    let t = bytes::from(s, 2 * (k as usize));
-    let high = bytes::one(t) as u16;
-    let low = bytes::one(bytes::from(t, 1)) as u16;
-    0x100 * high + low
-}
-
-// A byte as a number of 64 bits.
-fn wide(x: u8) -> u64
-    ensures { (result ≡ x) × (result < 256) }
-{
-    x as u64
+    let at = 2 * k as usize;
+    u16::from_be_bytes([bytes::byte(s, at), bytes::byte(s, at + 1)])
 }
 
 // Two neighbouring words of s as one number of 32 bits: 2 k and the one behind it, all of whose bytes are there.
-fn pair_at(s: &[u8], k: usize) -> u64
+#[tactic(auto, using(crate::proofs::Sums::pair_there))]
+fn pair_at(s: &[u8], k: usize) -> u32
     requires { 4 * k + 4 ≤ length s.now }
-    ensures { (result ≡ 65536 * get_or (words s.now) (2 * k) 0 + get_or (words s.now) (2 * k + 1) 0) × (result < 2 ^ 32) }
+    ensures { result ≡ 65536 * slice_index (words s.now) (2 * k) + slice_index (words s.now) (2 * k + 1) }
 {
     let at = 4 * k;
-    0x100_0000 * wide(s[at])
-        + 0x1_0000 * wide(s[at + 1])
-        + 0x100 * wide(s[at + 2])
-        + wide(s[at + 3])
+    u32::from_be_bytes([s[at], s[at + 1], s[at + 2], s[at + 3]])
 }
 
-// The sum of the first 255 words of s, all of which are there, two at a time: the first of two counts 65,536 times,
-// which is once, as soon as carries go round.
+// The sum of the first 255 words of s, all of which are there, two at a time, in about a tenth of the instructions:
+// the first of two counts 65,536 times, which is once, as soon as carries go round.
 fn sum_pairs(s: &[u8]) -> u64
     requires { 510 ≤ length s.now }
     ensures { SumsUp s.now result }
 {
     let mut sum: u64 = 0;
-    let mut k: usize = 0;
-    while k < 127 {
-        sum += pair_at(s, k);
-        k += 1;
+    for k in 0..127 {
+        sum += u64::from(pair_at(s, k));
     }
-    sum + word_at(s, 254) as u64
+    sum + u64::from(word_at(s, 254))
 }
 
 // The same one after the other, whatever is there of them.
@@ -54,10 +42,8 @@ fn sum_singly(s: &[u8]) -> u64
     ensures { SumsUp s.now result }
 {
     let mut sum: u64 = 0;
-    let mut k: u16 = 0;
-    while k < 255 {
-        sum += word_at(s, k) as u64;
-        k += 1;
+    for k in 0..255 {
+        sum += u64::from(word_at(s, k));
     }
     sum
 }
@@ -80,8 +66,9 @@ fn fold(sum: u64) -> u64
     sum % 65536 + sum / 65536
 }
 
-// The check that a block should carry: the sum of its words but the last, carries folded in, inverted. After three folds
-// no carry is left.
+/// The check that a block should carry: the sum of its words but the last, carries folded in, inverted. After three
+/// folds no carry is left.
+#[tactic(auto, using(crate::proofs::Sums::lates))]
 pub fn block_check(book: &[u8], block: u16) -> u16
     ensures { result ≡ block_check book.now block }
 {
@@ -92,7 +79,8 @@ pub fn block_check(book: &[u8], block: u16) -> u16
     (65535 - third) as u16
 }
 
-// Whether the last word of a block is its check.
+/// Whether the last word of a block is its check.
+#[tactic(auto, unfolding(crate::specs::Check::check_holds), using(crate::proofs::Sums::last_word))]
 pub fn check_holds(book: &[u8], block: u16) -> bool
     ensures { result ≡ check_holds book.now block }
 {

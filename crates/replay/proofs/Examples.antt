@@ -9,7 +9,7 @@ use lib.ListN.{replicate}
 use Rattle.book.specs.Lists.{from}
 use Rattle.lower.specs.LowerBook.{accepted}
 use Rattle.record.specs.Bytes.{little_endian, little_bytes}
-use Rattle.replay.specs.Bytes.{printed, zeros, is_name}
+use Rattle.replay.specs.Bytes.{is_name}
 use Rattle.replay.specs.Layout.{header_of}
 use Rattle.replay.specs.Range.{in_range, well_formed}
 use Rattle.replay.specs.Agree.{changes, follows, agrees, places_in, suits}
@@ -27,7 +27,7 @@ k1 =
     ++ (four 512 ++ four 49152 ++ four 6144 ++ four 0 ++ four 0 ++ four 4 ++ four 0 ++ four 2 ++ four 96 ++ four 0)
 
 k1_can_be_read : well_formed k1 ≡ true
-unfolding k1 four little_bytes well_formed is_name printed zeros in_range header_of little_endian
+unfolding k1 four little_bytes well_formed is_name in_range header_of little_endian
 k1_can_be_read = refl
 
 -- its book has one block, and behind that stand 96 bytes of results
@@ -37,11 +37,11 @@ k1_is_formed = refl
 
 -- 24 characters are a name; a space in it, or a byte behind the padding, makes it none
 longest_name : is_name (replicate 24 0x7e) ≡ true
-unfolding is_name printed zeros
+unfolding is_name
 longest_name = refl
 
 no_name : (is_name (replicate 24 0) ≡ false) × ((is_name (0x61 ∷ 0x20 ∷ 0x62 ∷ []) ≡ false) × (is_name (0x61 ∷ 0 ∷ 0x62 ∷ []) ≡ false))
-unfolding is_name printed zeros
+unfolding is_name
 no_name = (refl, (refl, refl))
 
 -- of 100 bytes four records, 96 bytes, are used; of 49,200 the first 2,048 records

@@ -10,8 +10,7 @@ use lib.Seq.{length-take-le}
 use Rattle.book.proofs.Trees.{both_so}
 use Rattle.lower.specs.LowerBook as lower
 use Rattle.lower.specs.LowerBook.{accepted, refused, lower_book}
-use Rattle.lower.specs.declared.Reply.{Reply}
-use Rattle.lower.specs.Promise.{reply_of, Lowered}
+use Rattle.lower.specs.Promise.{Answered, reply_of, Lowered}
 use Rattle.replay.specs.Lent.{patterned, lent_results, lent_diagnostics}
 use Rattle.replay.specs.Said.{reply_said, left_as, said, same_reply, same, agrees_with}
 use Rattle.replay.specs.Outcome.{formed, found, outcome_into, outcome, RightIfLowered}
@@ -33,7 +32,7 @@ still_long n step first left is long = long ∙ ap length is ∙ pattern_length 
 
 -- the book of an answer was lowered into slices of n and m bytes
 pub all_found :
-    (h : Header) (book results diagnostics : List ℕ) (n m : ℕ) {own told own' told' : List ℕ} (reply : Reply) →
+    (h : Header) (book results diagnostics : List ℕ) (n m : ℕ) {own told own' told' : List ℕ} (reply : Answered) →
     own ≡ patterned n 5 17 →
     told ≡ patterned m 3 29 →
     Lowered book own told reply own' told' →

@@ -1,5 +1,4 @@
 mod Scans
-mod Tallies
 mod Patterns
 mod Sames
 mod Lefts

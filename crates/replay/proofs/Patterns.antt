@@ -3,13 +3,13 @@
 use Prim.Native.Nat.{ℕ, suc, ◌+◌, ◌*◌, ◌/◌, ◌%◌, ◌≤◌, ◌<◌}
 use mathlib.Core.Bool.{true, false}
 use mathlib.Core.List.{List, [], ◌∷◌, ◌++◌, map, map-append}
-use mathlib.Core.Path.{◌≡◌, sym, ap, ◌∙◌}
+use mathlib.Core.Path.{◌≡◌, refl, sym, ap, ◌∙◌}
 use native.Mathlib.Numerals.{add-one}
-use native.Mathlib.Nat.{mul-le-mul, div-add-mod}
+use native.Mathlib.Nat.{div-add-mod}
 use native.Mathlib.Omega.{arith}
 use lib.ListN.{length, take, drop, get_or, set, length-map}
 use lib.Seq.{take-suc-set}
-use Rattle.book.specs.Lists.{up_to}
+use Rattle.book.specs.Lists.{up_to, from}
 use Rattle.book.proofs.Lists.{from-length}
 use Rattle.book.proofs.Marks.{up_to_last}
 use Rattle.book.proofs.Members.{at_from}
@@ -18,15 +18,8 @@ use Rattle.replay.specs.Lent.{lent_byte, patterned}
 use Rattle.replay.specs.Said.{same}
 use Rattle.replay.proofs.Scans.{none_left, same_on, same_out}
 
--- the product is one of two bytes
-pub product_small : {step : ℕ} (i : ℕ) → step < 256 → step * (i % 256) ≤ 65025
-product_small {step} i small =
-    let low : step ≤ 255 = omega arith in
-    let low' : i % 256 ≤ 255 = omega arith in
-    mul-le-mul low low'
-
 -- a byte goes by the last eight bits of its place
-pub byte_is : (step first i : ℕ) → (step * (i % 256) + first) % 256 ≡ lent_byte step first i
+pub byte_is : (step first i : ℕ) → (step * (i % 256) % 256 + first) % 256 ≡ lent_byte step first i
 byte_is step first i =
     let whole : 256 * (step * (i / 256)) + step * (i % 256) ≡ step * i = omega (arith, ap (λ n. step * n) (div-add-mod i 256)) in
     omega arith
@@ -42,6 +35,10 @@ module _ (step first : ℕ) where
   pattern_at n i less =
       let there : i < length (up_to n) = omega (arith, from-length 0 n) in
       at_map (lent_byte step first) (up_to n) i 0 0 there ∙ ap (lent_byte step first) (at_from 0 n i 0 less ∙ omega arith)
+
+  pub pattern_none : (s : List ℕ) → take 0 s ≡ patterned 0 step first
+  unfolding patterned from
+  pattern_none s = refl
 
   pattern_next : (n : ℕ) → patterned (suc n) step first ≡ patterned n step first ++ (lent_byte step first n ∷ [])
   unfolding patterned

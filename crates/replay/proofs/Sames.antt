@@ -1,25 +1,40 @@
 -- What is told to be the same is equal, and the other way round; two slices, part by part; a reply beside the one that is said.
 -- Assumes nothing.
 use Prim.Native.Nat.{ℕ, zero, suc}
-use mathlib.Core.Bool.{Bool, true, false, cond, not, ◌&&◌, and_assoc}
+use mathlib.Core.Bool.{Bool, true, false, cond, ◌&&◌, and_assoc}
 use mathlib.Core.List.{List, [], ◌∷◌, ◌++◌}
 use mathlib.Core.Path.{◌≡◌, refl, sym, ap₂}
 use native.Mathlib.Omega.{arith}
 use lib.Dec.{leb, eqb}
 use lib.ListN.{length, take, drop, replicate}
-use borrow.Author.Tests.{eq-eqb, eqb-true, le-leb, lt-leb, leb-true, leb-false}
+use borrow.Author.Tests.{eq-eqb, ne_eqb, eqb-true, eqb-false, le-leb, lt-leb, leb-true, leb-false}
 use Rattle.book.proofs.Trees.{both_so}
 use Rattle.lower.specs.LowerBook.{Reply, accepted, refused, Outcome}
-use Rattle.replay.specs.Bytes.{starts_with, zeros}
+use Rattle.std.specs.Prelude.{Ok, Err, nat_eq}
+use Rattle.std.specs.List.{starts_with}
+use lib.Pointwise.{pointwise}
+use Rattle.record.specs.Refused.{number_of}
+use Rattle.record.specs.declared.refusal.Cause.{Cause}
+use Rattle.record.specs.declared.refusal.Cause.TheVariants.{BookLength, Check, Block, Shape, Child, Follow, Name, Depth, TooDeep, Full}
+use Rattle.lower.specs.Promise.{Answered, reply_of, reply_words}
+use Rattle.replay.specs.Bytes.{zeros}
 use Rattle.replay.specs.Said.{reply_said, same_reply, same, agrees_with, AgreesIfEqual}
 use Rattle.replay.specs.declared.layout.Header.{Header}
 
+-- two numbers either way round
+eqb_turned : (x y : ℕ) → eqb x y ≡ eqb y x
+eqb_turned x y = go (eqb y x) refl
+  where
+    go : (b : Bool) → eqb y x ≡ b → eqb x y ≡ b
+    go true e = eq-eqb x y (sym (eqb-true y x e))
+    go false e = ne_eqb x y (λ p. eqb-false y x e (sym p))
+
 -- a slice is the same as two parts where it starts with the one and goes on as the other
-pub same_parts : (l a b : List ℕ) → same l (a ++ b) ≡ starts_with l a && same (drop (length a) l) b
-unfolding same starts_with
+pub same_parts : (l a b : List ℕ) → same l (a ++ b) ≡ starts_with nat_eq l a && same (drop (length a) l) b
+unfolding same
 same_parts l [] b = refl
 same_parts [] (y ∷ a) b = refl
-same_parts (x ∷ l) (y ∷ a) b = rw (same_parts l a b) (sym (and_assoc (eqb x y) (starts_with l a) _))
+same_parts (x ∷ l) (y ∷ a) b = rw (same_parts l a b, eqb_turned x y) (sym (and_assoc (eqb y x) (starts_with nat_eq l a) _))
 
 -- three tests in another order
 swap : (a b c : Bool) → a && (b && c) ≡ b && (a && c)
@@ -36,41 +51,60 @@ next_leb m n = go (leb m n) refl
     go false e = lt-leb (suc m) (suc n) (omega (arith, leb-false m n e))
 
 -- n zeros stand at the front of a slice that has n bytes and whose first n are zero
-pub zeros_first : (l : List ℕ) (n : ℕ) → starts_with l (replicate n 0) ≡ leb n (length l) && zeros (take n l)
-unfolding starts_with zeros
+pub zeros_first : (l : List ℕ) (n : ℕ) → starts_with nat_eq l (replicate n 0) ≡ leb n (length l) && zeros (take n l)
 zeros_first l zero = rw (le-leb 0 (length l) (omega arith))
 zeros_first [] (suc n) = rw (lt-leb (suc n) 0 (omega arith))
-zeros_first (x ∷ l) (suc n) = rw (next_leb n (length l), zeros_first l n) (swap (eqb x 0) (leb n (length l)) (zeros (take n l)))
+zeros_first (x ∷ l) (suc n) =
+    rw (next_leb n (length l), zeros_first l n, eqb_turned 0 x) (swap (eqb x 0) (leb n (length l)) (zeros (take n l)))
 
--- the reply that an answer says, beside one that accepts and one that refuses
-module _ (h : Header) where
-  pub accepted_said :
-      (r d c : ℕ) →
-      eqb h.cause 0 && eqb r h.results.count && eqb d h.diagnostics.count && eqb c h.constants
-      ≡ same_reply (accepted r d c) (reply_said h)
-  unfolding same_reply reply_said
-  accepted_said r d c = go (eqb h.cause 0)
-    where
-      go :
-          (b : Bool) →
-          b && eqb r h.results.count && eqb d h.diagnostics.count && eqb c h.constants
-          ≡ same_reply (accepted r d c)
-          (cond b (accepted h.results.count h.diagnostics.count h.constants) (refused h.cause h.place))
-      go true = refl
-      go false = refl
+-- the words of a reply tell it from the one that an answer says: 0 is the number of no cause
+numbered : (c : Cause) → eqb (number_of c) 0 ≡ false
+numbered BookLength = refl
+numbered Check = refl
+numbered Block = refl
+numbered Shape = refl
+numbered Child = refl
+numbered Follow = refl
+numbered Name = refl
+numbered Depth = refl
+numbered TooDeep = refl
+numbered Full = refl
 
-  pub refused_said :
-      (n p : ℕ) → not (eqb h.cause 0) && eqb n h.cause && eqb p h.place ≡ same_reply (refused n p) (reply_said h)
-  unfolding same_reply reply_said
-  refused_said n p = go (eqb h.cause 0)
-    where
-      go :
-          (b : Bool) →
-          not b && eqb n h.cause && eqb p h.place
-          ≡ same_reply (refused n p)
-          (cond b (accepted h.results.count h.diagnostics.count h.constants) (refused h.cause h.place))
-      go true = refl
-      go false = refl
+three : (a b c : Bool) → a && (b && (c && true)) ≡ a && b && c
+three true true true = refl
+three true true false = refl
+three true false c = refl
+three false b c = refl
+
+two : (a b : Bool) → a && (b && true) ≡ a && b
+two true true = refl
+two true false = refl
+two false b = refl
+
+pub words_tell :
+    (x : Answered) (h : Header) →
+    pointwise eqb (reply_words (reply_of x)) (reply_words (reply_said h)) ≡ same_reply (reply_of x) (reply_said h)
+unfolding reply_of reply_words reply_said same_reply
+words_tell (Ok n) h = go (eqb h.cause 0) refl
+  where
+    go :
+        (b : Bool) → eqb h.cause 0 ≡ b →
+        pointwise eqb (0 ∷ n.results ∷ n.diagnostics ∷ n.constants ∷ [])
+        (reply_words (cond b (accepted h.results.count h.diagnostics.count h.constants) (refused h.cause h.place)))
+        ≡ same_reply (accepted n.results n.diagnostics n.constants)
+        (cond b (accepted h.results.count h.diagnostics.count h.constants) (refused h.cause h.place))
+    go true e = three (eqb n.results h.results.count) (eqb n.diagnostics h.diagnostics.count) (eqb n.constants h.constants)
+    go false e = rw (eqb_turned 0 h.cause, e)
+words_tell (Err r) h = go (eqb h.cause 0)
+  where
+    go :
+        (b : Bool) →
+        pointwise eqb (number_of r.cause ∷ r.place ∷ 0 ∷ 0 ∷ [])
+        (reply_words (cond b (accepted h.results.count h.diagnostics.count h.constants) (refused h.cause h.place)))
+        ≡ same_reply (refused (number_of r.cause) r.place)
+        (cond b (accepted h.results.count h.diagnostics.count h.constants) (refused h.cause h.place))
+    go true = rw (numbered r.cause)
+    go false = two (eqb (number_of r.cause) h.cause) (eqb r.place h.place)
 
 -- slices, replies and outcomes: each is the same as itself, and those that are the same are equal
 same_refl : (l : List ℕ) → same l l ≡ true

@@ -1,16 +1,17 @@
 -- Lists that are looked at from the front on, byte by byte: what the byte at i tells, and what is left behind it.
 -- Assumes nothing.
-use Prim.Native.Nat.{ℕ, zero, suc, ◌+◌, ◌≤◌, ◌<◌}
-use mathlib.Core.Bool.{Bool, true, false, ◌&&◌}
+use Prim.Native.Nat.{ℕ, zero, suc, ◌+◌, ◌*◌, ◌≤◌, ◌<◌}
+use mathlib.Core.Bool.{false}
 use mathlib.Core.List.{List, [], ◌∷◌}
-use mathlib.Core.Path.{◌≡◌, refl}
+use mathlib.Core.Path.{◌≡◌, sym, ap, ◌∙◌}
 use native.Mathlib.Numerals.{add-one}
 use native.Mathlib.Omega.{arith}
-use lib.Dec.{eqb}
 use lib.ListN.{length, drop, get_or}
 use lib.Seq.{drop-cons, drop-nil}
-use borrow.Author.Tests.{eq-eqb, ne_eqb, le-leb, lt-leb}
-use Rattle.replay.specs.Bytes.{starts_with, zeros, printed}
+use borrow.Author.Tests.{eq-eqb, ne_eqb}
+use Rattle.std.specs.Int.{w32, from_le_bytes}
+use Rattle.record.specs.Bytes.{little_endian}
+use Rattle.replay.specs.Layout.{number_at}
 use Rattle.replay.specs.Said.{same}
 
 -- the rest from i on is the byte at i, and the rest behind it
@@ -23,42 +24,8 @@ none_left [] i h = drop-nil i
 none_left (b ∷ s) zero h = absurd (omega arith)
 none_left (b ∷ s) (suc i) h = none_left s i (omega arith)
 
-and-false : (b : Bool) → b && false ≡ false
-and-false true = refl
-and-false false = refl
-
 module _ (s : List ℕ) (i : ℕ) (h : i < length s) where
-  pub zeros_on : get_or s i 0 ≡ 0 → zeros (drop i s) ≡ zeros (drop (i + 1) s)
-  unfolding zeros
-  zeros_on e = rw (next s i h, eq-eqb (get_or s i 0) 0 e)
-
-  pub zeros_out : (get_or s i 0 ≡ 0 → ⊥) → zeros (drop i s) ≡ false
-  unfolding zeros
-  zeros_out e = rw (next s i h, ne_eqb (get_or s i 0) 0 e)
-
-  pub printed_on : 0x21 ≤ get_or s i 0 → get_or s i 0 ≤ 0x7e → printed (drop i s) ≡ suc (printed (drop (i + 1) s))
-  unfolding printed
-  printed_on low high = rw (next s i h, le-leb 0x21 (get_or s i 0) low, le-leb (get_or s i 0) 0x7e high)
-
-  pub printed_low : get_or s i 0 < 0x21 → printed (drop i s) ≡ 0
-  unfolding printed
-  printed_low low = rw (next s i h, lt-leb 0x21 (get_or s i 0) low)
-
-  pub printed_high : 0x7e < get_or s i 0 → printed (drop i s) ≡ 0
-  unfolding printed
-  printed_high high =
-      let low : 0x21 ≤ get_or s i 0 = omega arith in
-      rw (next s i h, le-leb 0x21 (get_or s i 0) low, lt-leb (get_or s i 0) 0x7e high)
-
   module _ (xs : List ℕ) (k : i < length xs) where
-    pub starts_on : get_or s i 0 ≡ get_or xs i 0 → starts_with (drop i s) (drop i xs) ≡ starts_with (drop (i + 1) s) (drop (i + 1) xs)
-    unfolding starts_with
-    starts_on e = rw (next s i h, next xs i k, eq-eqb (get_or s i 0) (get_or xs i 0) e)
-
-    pub starts_out : (get_or s i 0 ≡ get_or xs i 0 → ⊥) → starts_with (drop i s) (drop i xs) ≡ false
-    unfolding starts_with
-    starts_out e = rw (next s i h, next xs i k, ne_eqb (get_or s i 0) (get_or xs i 0) e)
-
     pub same_on : get_or s i 0 ≡ get_or xs i 0 → same (drop i s) (drop i xs) ≡ same (drop (i + 1) s) (drop (i + 1) xs)
     unfolding same
     same_on e = rw (next s i h, next xs i k, eq-eqb (get_or s i 0) (get_or xs i 0) e)
@@ -67,9 +34,24 @@ module _ (s : List ℕ) (i : ℕ) (h : i < length s) where
     unfolding same
     same_out e = rw (next s i h, next xs i k, ne_eqb (get_or s i 0) (get_or xs i 0) e)
 
--- no list stands at the front of a shorter one
-pub too_short : (s xs : List ℕ) → length s < length xs → starts_with s xs ≡ false
-unfolding starts_with
-too_short s [] h = absurd (omega arith)
-too_short [] (x ∷ xs) h = refl
-too_short (b ∷ s) (x ∷ xs) h = rw (too_short s xs (omega arith)) (and-false (eqb b x))
+-- the number in four bytes that are there
+four_of :
+    (a b c d : ℕ) (t : List ℕ) →
+    a + b * 256 + c * 65536 + d * 16777216 ≡ little_endian 4 (a ∷ b ∷ c ∷ d ∷ t)
+unfolding little_endian
+four_of a b c d t = omega arith
+
+pub number_there :
+    (s : List ℕ) (at : ℕ) → at + 4 ≤ length s →
+    from_le_bytes w32 (get_or s at 0 ∷ get_or s (at + 1) 0 ∷ get_or s (at + 2) 0 ∷ get_or s (at + 3) 0 ∷ []) ≡ number_at s at
+number_there s at h =
+    let on : (i n : ℕ) → i + 1 ≡ n → n < length s → drop (i + 1) s ≡ get_or s n 0 ∷ drop (n + 1) s =
+    λ i n e less. ap (λ (k : ℕ). drop k s) e ∙ next s n less in
+    let all : drop at s ≡ get_or s at 0 ∷ get_or s (at + 1) 0 ∷ get_or s (at + 2) 0 ∷ get_or s (at + 3) 0 ∷ drop (at + 3 + 1) s =
+    next s at (omega arith)
+    ∙ ap {B = List ℕ} (λ t. get_or s at 0 ∷ t)
+    (next s (at + 1) (omega arith)
+    ∙ ap {B = List ℕ} (λ t. get_or s (at + 1) 0 ∷ t)
+    (on (at + 1) (at + 2) (omega arith) (omega arith)
+    ∙ ap {B = List ℕ} (λ t. get_or s (at + 2) 0 ∷ t) (on (at + 2) (at + 3) (omega arith) (omega arith)))) in
+    four_of _ _ _ _ _ ∙ sym (ap (little_endian 4) all)

@@ -1,26 +1,16 @@
--- Bytes of a list of answers: where something stands, names, counts.
+-- Bytes of a list of answers: names, counts.
 -- Assumes nothing.
-use Rattle.std.specs.Prelude.{ℕ, suc, Bool, true, false, cond, ◌&&◌, List, [], ◌∷◌, leb, ltb, eqb, drop}
-
--- xs stands at the front of s
-unfoldable pub starts_with : List ℕ → List ℕ → Bool
-starts_with s [] = true
-starts_with [] (x ∷ xs) = false
-starts_with (b ∷ s) (x ∷ xs) = eqb b x && starts_with s xs
+use Rattle.std.specs.Prelude.{ℕ, Bool, true, false, ◌&&◌, List, ◌==◌, ltb, drop, length, take_while}
+use Rattle.std.specs.List.{list_all}
+use Rattle.std.specs.Char.{is_ascii_graphic}
 
 -- every byte is zero
-unfoldable pub zeros : List ℕ → Bool
-zeros [] = true
-zeros (b ∷ s) = eqb b 0 && zeros s
+abbrev pub zeros : List ℕ → Bool
+zeros s = list_all (λ b. b == 0) s
 
--- a printable ASCII character that is no space
-abbrev pub printable : ℕ → Bool
-printable b = leb 0x21 b && leb b 0x7e
-
--- how many of them stand at the front of s
-unfoldable pub printed : List ℕ → ℕ
-printed [] = 0
-printed (b ∷ s) = cond (printable b) (suc (printed s)) 0
+-- how many printable ASCII characters that are no space, 0x21 to 0x7e, stand at the front of s
+abbrev pub printed : List ℕ → ℕ
+printed s = length (take_while is_ascii_graphic s)
 
 -- a name: one or more of them, padded with zero bytes
 unfoldable pub is_name : List ℕ → Bool

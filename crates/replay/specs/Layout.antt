@@ -5,22 +5,22 @@
 -- the two slices as lent; 36 cause, 0 for accepted; 40 place; 44 results; 48 diagnostics; 52 stored constants; 56 and 60 how many bytes at
 -- the front of the result and the diagnostics slice changed.
 -- Assumes nothing.
-use Rattle.std.specs.Prelude.{ℕ, Bool, ◌&&◌, List, [], ◌∷◌, eqb, drop}
+use Rattle.std.specs.Prelude.{ℕ, Bool, ◌&&◌, List, [], ◌∷◌, eqb, drop, nat_eq}
+use Rattle.std.specs.List.{starts_with}
 use Rattle.record.specs.Bytes.{little_endian}
-use Rattle.replay.specs.Bytes.{starts_with}
 use Rattle.replay.specs.declared.layout.Header.{Header}
 
 -- the number that stands at a place
 abbrev pub number_at : List ℕ → ℕ → ℕ
 number_at s at = little_endian 4 (drop at s)
 
--- the line "answers" in ASCII
+-- the line "answers"
 abbrev pub answers_line : List ℕ
-answers_line = 0x61 ∷ 0x6e ∷ 0x73 ∷ 0x77 ∷ 0x65 ∷ 0x72 ∷ 0x73 ∷ 0x0a ∷ []
+answers_line = 97 ∷ 110 ∷ 115 ∷ 119 ∷ 101 ∷ 114 ∷ 115 ∷ 10 ∷ []
 
 -- the head; the number of answers stands at 8
 unfoldable pub is_head : List ℕ → Bool
-is_head s = starts_with s answers_line && eqb (number_at s 12) 0
+is_head s = starts_with nat_eq s answers_line && eqb (number_at s 12) 0
 
 -- the ten numbers behind the name
 unfoldable pub header_of : List ℕ → Header

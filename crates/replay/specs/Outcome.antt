@@ -1,6 +1,6 @@
 -- What is found of one answer.
 -- Assumes nothing.
-use Rattle.std.specs.Prelude.{ℕ, Bool, true, false, ◌&&◌, List, ◌↔◌, ◌≡◌, eqb, length}
+use Rattle.std.specs.Prelude.{ℕ, Bool, true, ◌&&◌, List, Some, None, ◌↔◌, ◌≡◌, eqb, length}
 use Rattle.lower.specs.LowerBook.{Reply, accepted, refused, lower_book}
 use Rattle.replay.specs.Agree.{follows, agrees, suits}
 use Rattle.replay.specs.Lent.{lent_results, lent_diagnostics}
@@ -21,8 +21,8 @@ formed h book results diagnostics = agrees h && suits h book && complete h book 
 
 -- whether an answer is right, and what the reply to its book counts: nothing if it is a refusal
 unfoldable pub found : Bool → Reply → Outcome
-found right (accepted r d c) = record { right = right; accepted = true; results = r; diagnostics = d; constants = c }
-found right (refused n p) = record { right = right; accepted = false; results = 0; diagnostics = 0; constants = 0 }
+found right (accepted r d c) = record { right = right; counts = Some (record { results = r; diagnostics = d; constants = c }) }
+found right (refused n p) = record { right = right; counts = None }
 
 -- an answer whose book is lowered into two slices: it is right where its form is, and where that gives the reply and the slices that it says
 unfoldable pub outcome_into : Header → List ℕ → List ℕ → List ℕ → List ℕ → List ℕ → Outcome

@@ -1,28 +1,22 @@
 -- The totals of a list.
 -- Assumes nothing.
-use Rattle.std.specs.Prelude.{◌+◌, ◌*◌, ◌≤◌, not}
+use Rattle.std.specs.Prelude.{ℕ, ◌≡◌, ◌+◌, not, is_some, is_none}
+use Rattle.std.specs.Option.{option_map_or}
+use Rattle.lower.specs.declared.Counts.{Counts}
 use Rattle.replay.specs.Bytes.{bit}
 use Rattle.replay.specs.declared.answer.Outcome.{Outcome}
 use Rattle.replay.specs.declared.totals.Totals.{Totals}
 
--- one answer more
-abbrev pub counted : Totals → Outcome → Totals
-counted t o =
-    record {
-      answers = t.answers + 1;
-      accepted = t.accepted + bit o.accepted;
-      refused = t.refused + bit (not o.accepted);
-      results = t.results + o.results;
-      diagnostics = t.diagnostics + o.diagnostics;
-      constants = t.constants + o.constants;
-      wrong = t.wrong + bit (not o.right);
-    }
+-- one of the counts of an answer's book; one that is refused counts nothing
+abbrev pub count_of : (Counts → ℕ) → Outcome → ℕ
+count_of count o = option_map_or count o.counts 0
 
--- what so many answers can have added up to
-pub record Within (t : Totals) : Type 0 where
-  pub accepted : t.accepted ≤ t.answers
-  pub refused : t.refused ≤ t.answers
-  pub results : t.results ≤ 65535 * t.answers
-  pub diagnostics : t.diagnostics ≤ 65535 * t.answers
-  pub constants : t.constants ≤ 65535 * t.answers
-  pub wrong : t.wrong ≤ t.answers
+-- one answer more
+pub record CountsOne (old : Totals) (o : Outcome) (new : Totals) : Type 0 where
+  pub answers : new.answers ≡ old.answers + 1
+  pub accepted : new.accepted ≡ old.accepted + bit (is_some o.counts)
+  pub refused : new.refused ≡ old.refused + bit (is_none o.counts)
+  pub results : new.results ≡ old.results + count_of (λ c. c.results) o
+  pub diagnostics : new.diagnostics ≡ old.diagnostics + count_of (λ c. c.diagnostics) o
+  pub constants : new.constants ≡ old.constants + count_of (λ c. c.constants) o
+  pub wrong : new.wrong ≡ old.wrong + bit (not o.right)

@@ -1,59 +1,59 @@
-// What an answer says, beside what the lowering of its book gave.
+//! What an answer says, beside what the lowering of its book gave.
 
-ghost use Rattle.std.specs.Prelude.{◌≡◌, length, replicate};
-ghost use Rattle.lower.specs.Promise.{reply_of};
-ghost use Rattle.replay.specs.Bytes.{starts_with};
+ghost use Rattle.std.specs.Prelude.{◌≡◌, length};
+ghost use Rattle.lower.specs.Promise.{reply_of, reply_words};
 ghost use Rattle.replay.specs.Lent.{patterned};
 ghost use Rattle.replay.specs.Said.{reply_said, left_as, same_reply, same};
 
+use crate::bytes;
 use crate::layout::{Header, Part};
-use crate::{bytes, lent};
-use lower::Reply;
+use crate::lent::Pattern;
+use lower::Counts;
+use record::refusal::Refusal;
 
-// Whether a reply is the one that an answer says.
-pub(crate) fn reply_agrees(h: Header, reply: Reply) -> bool
+// The reply that an answer says, in four words.
+#[tactic(auto, unfolding(crate::specs::Said::reply_said, lower::specs::Promise::reply_words))]
+fn said_words(h: Header) -> [u64; 4]
+    ensures { result ≡ reply_words (reply_said h) }
+{
+    if h.cause == 0 {
+        [
+            0,
+            u64::from(h.results.count),
+            u64::from(h.diagnostics.count),
+            u64::from(h.constants),
+        ]
+    } else {
+        [u64::from(h.cause), u64::from(h.place), 0, 0]
+    }
+}
+
+/// Whether a reply is the one that an answer says.
+#[tactic(auto, using(crate::proofs::Sames::words_tell))]
+pub(crate) fn reply_agrees(h: Header, reply: Result<Counts, Refusal>) -> bool
     ensures { result ≡ same_reply (reply_of reply) (reply_said h) }
 {
-    match reply {
-        Reply::Accepted {
-            results,
-            diagnostics,
-            constants,
-        } => {
-            (h.cause == 0)
-                & (results as u32 == h.results.count)
-                & (diagnostics as u32 == h.diagnostics.count)
-                & (constants as u32 == h.constants)
-        }
-        Reply::Refused { cause, place } => {
-            (h.cause != 0) & (lower::number(cause) as u32 == h.cause) & (place as u32 == h.place)
-        }
-    }
+    lower::reply_words(reply) == said_words(h)
 }
 
-// Whether n zeros stand at the front of s.
-fn starts_with_zeros(s: &[u8], n: usize) -> bool
-    ensures { result ≡ starts_with s.now (replicate n 0) }
-{
-    (n <= s.len()) & bytes::all_zero(bytes::front(s, n))
-}
-
-// Whether a slice is left as an answer says: its front as written, or zeros as far as it changed, and the rest as lent.
+/// Whether a slice is left as an answer says: its front as written, or zeros as far as it changed, and the rest as
+/// lent.
 pub(crate) fn slice_agrees(
     cause: u32,
-    p: Part,
+    part: Part,
     written: &[u8],
     left: &[u8],
-    step: u8,
-    first: u8,
+    lent: Pattern,
 ) -> bool
     ensures { result ≡ same left.now
-        (left_as cause p written.now (patterned (length left.now) step first)) }
+        (left_as cause part written.now (patterned (length left.now) lent.step lent.first)) }
 {
     if cause == 0 {
-        bytes::starts_with(left, written) & lent::rest_as_lent(left, written.len(), step, first)
-    } else {
-        let n = p.changed as usize;
-        starts_with_zeros(left, n) & lent::rest_as_lent(left, n, step, first)
+        return left.starts_with(written) && lent.goes_on(left, written.len());
     }
+    let n = part.changed as usize;
+    if left.len() < n {
+        return false;
+    }
+    bytes::all_zero(&left[..n]) && lent.goes_on(left, n)
 }

@@ -1,18 +1,18 @@
-// Reads answers on standard input, one after the other to its end: each a header of 16 bytes and a book. It lowers each
-// book by `lower_lent`, into slices that hold a pattern and with counters that mean nothing, and prints a line for it:
-// the four words of the reply, the three counters, and one number made of every field of every struct and of the front
-// of the results. Where the input ends within an answer, or a header asks for more than there is, it prints `broken`
-// and stops.
+//! Reads answers on standard input, one after the other to its end: each a header of 16 bytes and a book. It lowers
+//! each book by `lower_lent`, into slices that hold a pattern and with counters that mean nothing, and prints a line for
+//! it: the four words of the reply, the three counters, and one number made of every field of every struct and of the
+//! front of the results. Where the input ends within an answer, or a header asks for more than there is, it prints
+//! `broken` and stops.
 
 #![tactic(auto)]
 
-ghost use Rattle.std.specs.Prelude.{◌≤◌, ◌<◌, IfOk, length};
+ghost use Rattle.std.specs.Prelude.{◌≤◌, ◌<◌};
 
 use lent::{Diagnostic, ErrorClass};
-use lower::Reply;
+use lower::Counts;
 use record::Span;
+use record::refusal::Refusal;
 use std::io;
-use std::io::Read;
 use types::LowerCtx;
 
 // As many bytes of results and structs as there are to lend: two records, or two structs, past the limits.
@@ -32,29 +32,11 @@ const LENT: LowerCtx = LowerCtx {
 
 // What an answer lends: so many bytes of results and so many structs; and how many bytes of the results count in its
 // line.
-#[derive(Clone, Copy)]
+#[derive(Clone, Copy, Debug)]
 struct Loan {
     results: usize,
     structs: usize,
     shown: usize,
-}
-
-// The class of struct i, as lent.
-fn class_of(i: usize) -> ErrorClass {
-    match i % 3 {
-        0 => ErrorClass::UnresolvedType,
-        1 => ErrorClass::AliasTargetNotFound,
-        _ => ErrorClass::ConstRefNotFound,
-    }
-}
-
-// The number of a class, for the digest.
-fn class_number(class: ErrorClass) -> u64 {
-    match class {
-        ErrorClass::UnresolvedType => 0,
-        ErrorClass::AliasTargetNotFound => 1,
-        ErrorClass::ConstRefNotFound => 2,
-    }
 }
 
 // Struct i, as lent.
@@ -66,7 +48,7 @@ fn lent_struct(i: usize) -> Diagnostic
         message: (3 * i % 256) as u8,
         name: (7 * i) as u16,
         member: (11 * i) as u16,
-        class: class_of(i),
+        class: ErrorClass::from(i as u64 % 3),
         span: Span {
             offset: (13 * i) as u32,
             len: (17 * i) as u32,
@@ -91,7 +73,7 @@ fn digest_struct(h: u64, d: Diagnostic) -> u64 {
         d.message as u64,
         d.name as u64,
         d.member as u64,
-        class_number(d.class),
+        d.class as u64,
         d.span.offset as u64,
         d.span.len as u64,
     ];
@@ -104,21 +86,14 @@ fn digest_of(structs: &[Diagnostic], shown: &[u8]) -> u64 {
     shown.iter().fold(told, |h, byte| digest(h, *byte as u64))
 }
 
-// The four words of a reply.
-fn words_of(reply: Reply) -> [u64; 4] {
-    match reply {
-        Reply::Accepted {
-            results,
-            diagnostics,
-            constants,
-        } => [0, results as u64, diagnostics as u64, constants as u64],
-        Reply::Refused { cause, place } => [lower::number(cause) as u64, place as u64, 0, 0],
-    }
-}
-
 // The line of an answer.
-fn print_answer(rt: &HostRuntime, reply: Reply, ctx: LowerCtx, left: u64) -> io::Result<()> {
-    let [a, b, c, d] = words_of(reply);
+fn print_answer<P: Print>(
+    rt: &P,
+    reply: Result<Counts, Refusal>,
+    ctx: LowerCtx,
+    left: u64,
+) -> io::Result<()> {
+    let [a, b, c, d] = lower::reply_words(reply);
     let LowerCtx {
         next,
         results,
@@ -128,11 +103,11 @@ fn print_answer(rt: &HostRuntime, reply: Reply, ctx: LowerCtx, left: u64) -> io:
 }
 
 // Lowers a book into what is lent, and prints the line of the answer.
-fn lower_and_print(rt: &HostRuntime, loan: Loan, book: &[u8]) -> io::Result<()>
+fn lower_and_print<P: Print>(rt: &P, loan: Loan, book: &[u8]) -> io::Result<()>
     requires { (loan.results ≤ RESULT_BYTES) × (loan.structs ≤ STRUCTS) × (loan.shown ≤ loan.results) }
 {
     let mut results = [0u8; RESULT_BYTES];
-    let mut structs = [lent_struct(0); STRUCTS];
+    let mut structs = [Diagnostic::default(); STRUCTS];
     let mut ctx = LENT;
     for (i, byte) in results[..loan.shown].iter_mut().enumerate() {
         *byte = lent_byte(i);
@@ -153,6 +128,9 @@ fn lower_and_print(rt: &HostRuntime, loan: Loan, book: &[u8]) -> io::Result<()>
 // What reads the input stands from here on. Where `tests/lent` runs the program on the interpreter, which reads no
 // input, it has answers in the text in its place.
 
+use answers::{Stop, read_part};
+use std::io::{BufRead, Read};
+
 // The longest book that is read, one block past the limit.
 const BOOK_BYTES: usize = 33280;
 
@@ -160,18 +138,10 @@ const BOOK_BYTES: usize = 33280;
 const MOST_SHOWN: usize = 1200;
 
 // The header of an answer: the length of the book, and what is lent.
-#[derive(Clone, Copy)]
+#[derive(Clone, Copy, Debug)]
 struct Header {
     book: usize,
     loan: Loan,
-}
-
-// What the input has next.
-#[derive(Clone, Copy)]
-enum Next {
-    Answer,
-    End,
-    Broken,
 }
 
 // The number in four bytes.
@@ -179,69 +149,50 @@ fn number(bytes: [u8; 4]) -> usize {
     u32::from_le_bytes(bytes) as usize
 }
 
-// The header in its bytes.
-fn header_of(b: [u8; 16]) -> Header {
-    Header {
-        book: number([b[0], b[1], b[2], b[3]]),
-        loan: Loan {
-            results: number([b[4], b[5], b[6], b[7]]),
-            structs: number([b[8], b[9], b[10], b[11]]),
-            shown: number([b[12], b[13], b[14], b[15]]),
-        },
-    }
-}
-
-// Reads into buf until it is full or the input ends, and says how many bytes came.
-fn read_full<R: Read>(reader: &mut R, buf: &mut [u8]) -> io::Result<usize>
-    ensures { IfOk result (λ n. n ≤ length buf.new) }
-{
-    let mut at: usize = 0;
-    while at < buf.len() {
-        let n = reader.read(&mut buf[at..])?;
-        if n == 0 {
-            break;
+impl From<[u8; 16]> for Header {
+    fn from(b: [u8; 16]) -> Self {
+        Header {
+            book: number([b[0], b[1], b[2], b[3]]),
+            loan: Loan {
+                results: number([b[4], b[5], b[6], b[7]]),
+                structs: number([b[8], b[9], b[10], b[11]]),
+                shown: number([b[12], b[13], b[14], b[15]]),
+            },
         }
-        at += n;
     }
-    Ok(at)
-}
-
-// Reads the book behind a header, lowers it and prints its line.
-fn run_answer<R: Read>(rt: &HostRuntime, reader: &mut R, header: Header) -> io::Result<Next> {
-    let Header { book: length, loan } = header;
-    if length > BOOK_BYTES || loan.results > RESULT_BYTES || loan.structs > STRUCTS {
-        return Ok(Next::Broken);
-    }
-    if loan.shown > MOST_SHOWN || loan.shown > loan.results {
-        return Ok(Next::Broken);
-    }
-    let mut bytes = [0u8; BOOK_BYTES];
-    let book = &mut bytes[..length];
-    if read_full(reader, book)? < length {
-        return Ok(Next::Broken);
-    }
-    lower_and_print(rt, loan, book)?;
-    Ok(Next::Answer)
 }
 
 // Reads an answer and prints its line.
-fn next_answer<R: Read>(rt: &HostRuntime, reader: &mut R) -> io::Result<Next> {
+fn run_answer<P: Print + AllocGlobal, R: Read>(rt: &P, reader: &mut R) -> Result<(), Stop> {
     let mut header = [0u8; 16];
-    match read_full(reader, &mut header)? {
-        0 => Ok(Next::End),
-        16 => run_answer(rt, reader, header_of(header)),
-        _ => Ok(Next::Broken),
+    reader.read_exact(&mut header)?;
+    let Header { book: length, loan } = Header::from(header);
+    if length > BOOK_BYTES || loan.results > RESULT_BYTES || loan.structs > STRUCTS {
+        return Err(Stop::Broken);
     }
+    if loan.shown > MOST_SHOWN || loan.shown > loan.results {
+        return Err(Stop::Broken);
+    }
+    let book = read_part(rt.alloc(), reader, length)?;
+    lower_and_print(rt, loan, book.as_slice())?;
+    Ok(())
+}
+
+// Reads answers to the end of the input.
+fn run<P: Print + AllocGlobal, R: BufRead>(rt: &P, reader: &mut R) -> Result<(), Stop> {
+    for _ in 0..u64::MAX {
+        if reader.fill_buf()?.is_empty() {
+            break;
+        }
+        run_answer(rt, reader)?;
+    }
+    Ok(())
 }
 
 fn main(rt: HostRuntime) -> io::Result<()> {
-    let mut reader = rt.reader();
-    for _ in 0..u64::MAX {
-        match next_answer(&rt, &mut reader)? {
-            Next::Answer => {}
-            Next::End => return Ok(()),
-            Next::Broken => return println!(rt; "broken"),
-        }
+    match run(&rt, &mut rt.reader()) {
+        Ok(()) => Ok(()),
+        Err(Stop::Broken) => println!(rt; "broken"),
+        Err(Stop::Failed(error)) => Err(error),
     }
-    Ok(())
 }

@@ -49,7 +49,7 @@ pub record StandsAt (rs : List Record) (first root : ℕ) (t : ResolvedType) : T
   pub inside : root < length rs
   pub there : take (suc (below t)) (drop first rs) ≡ type_records first t
 
--- Claims; the proofs are in proofs/Records.antt. A type has one record more than stand before its root
+-- Claims; the proofs are in proofs/TypeRecords.antt. A type has one record more than stand before its root
 abbrev pub TypeHasRecords : Type 0
 TypeHasRecords = (n : ℕ) (t : ResolvedType) → length (type_records n t) ≡ suc (below t)
 

@@ -1,16 +1,12 @@
--- `book::book_refusal` meets its contract: the word of what `read_book` answers.
+-- `book::book_refusal` meets its contract: the word of what reading answers.
 -- Assumes nothing.
-use Prim.Native.Nat.{◌+◌, ◌*◌}
-use mathlib.Core.Path.{sym, ap, ◌∙◌}
-use Rattle.book.specs.Answer.{answer_of, refusal_word}
+use Rattle.std.proofs.Common.{◌+◌, ◌*◌, ap, ◌∙◌}
+use Rattle.book.proofs.Answers.{word_read, word_refused}
 use Rattle.book.proofs.book_refusal.Goals as goal
 
-pub returns-in-Accepted : goal.returns-in-Accepted
-unfolding answer_of refusal_word
-returns-in-Accepted c = ap refusal_word (sym (ap answer_of c.in-Accepted.is) ∙ c.read_book.ensures)
+pub returns-in-Ok : goal.returns-in-Ok
+returns-in-Ok c = word_read c.args.book.now c.in-Ok.ensures.answer
 
-pub returns-in-Refused : goal.returns-in-Refused
-unfolding answer_of refusal_word
-returns-in-Refused c =
-    ap (λ k. 65536 * k + c.in-Refused.place) c.number.ensures
-    ∙ ap refusal_word (sym (ap answer_of c.in-Refused.is) ∙ c.read_book.ensures)
+pub returns-in-Err : goal.returns-in-Err
+returns-in-Err c =
+    ap (λ n. 65536 * n + c.in-Err.refusal.place) c.number.ensures ∙ word_refused c.args.book.now c.in-Err.ensures.answer

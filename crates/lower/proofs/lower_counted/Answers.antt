@@ -1,23 +1,17 @@
--- `lower::lower_counted` meets its contract. A book that reading accepts is readable; one that it refuses leaves the slices as lent.
+-- `lower::lower_counted` meets its contract.
 -- Assumes nothing.
-use mathlib.Core.Path.{sym, ap, ◌∙◌}
-use Rattle.book.specs.Answer.{answer_of}
-use Rattle.book.proofs.Accepted.{read_is_readable}
-use Rattle.lower.proofs.Ending.{lowers_read, lowers_refused, counts_read, counts_refused}
+use Rattle.std.proofs.Common.{sym, ◌∙◌}
+use Rattle.lower.proofs.Reading.{accepted_so, refused_so}
 use Rattle.lower.proofs.lower_counted.Goals as goal
 
-pub lower_read-requires : goal.lower_read-requires
-unfolding answer_of
-lower_read-requires c =
-    read_is_readable c.args.book.now _ _ (sym c.read_book.ensures ∙ ap answer_of c.in-Accepted.is)
+pub returns-in-Ok : goal.returns-in-Ok
+returns-in-Ok c =
+    let x = accepted_so c.args.book.now c.args.results.now c.args.diagnostics.now c.args.ctx _ (sym c.in-Ok.is
+    ∙ c.read.ensures.answer) c.lower_read.ensures in
+    record { lowered = x.lowered; ctx_value = x.ctx_value }
 
-pub returns-in-Accepted : goal.returns-in-Accepted
-unfolding answer_of
-returns-in-Accepted c =
-    let is = ap answer_of c.in-Accepted.is in record { lowered = c.lower_read.ensures.outcome ∙ sym (lowers_read _ _ _ c.read_book.ensures is); ctx_value = c.lower_read.ensures.counters ∙ sym (counts_read _ _ _ _ c.read_book.ensures is) }
-
-pub returns-in-Refused : goal.returns-in-Refused
-unfolding answer_of
-returns-in-Refused c =
-    let is = ap answer_of c.in-Refused.is in
-    record { lowered = lowers_refused _ _ _ _ _ c.read_book.ensures is; ctx_value = counts_refused _ _ _ _ _ _ c.read_book.ensures is }
+pub returns-in-Err : goal.returns-in-Err
+returns-in-Err c =
+    let x = refused_so c.args.book.now c.args.results.now c.args.diagnostics.now c.args.ctx _ (sym c.in-Err.is
+    ∙ c.read.ensures.answer) in
+    record { lowered = x.lowered; ctx_value = x.ctx_value }

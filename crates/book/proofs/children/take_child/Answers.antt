@@ -1,44 +1,33 @@
--- `book::children::take_child` meets its contract. A field that names no child changes nothing. A child is wrong if it is not earlier, or if
--- the table does not have its group: it is of another one, or was used before. Else it is a root no more, and its levels stand in the other
--- table.
+-- `book::children::take_child` meets its contract: what is found in the tree's place tells whether the child is right.
 -- Assumes nothing.
-use mathlib.Core.Path.{refl}
-use native.Mathlib.Omega.{arith}
-use Rattle.book.proofs.Marks.{take_none, take_late, take_other, take_root}
-use Rattle.book.proofs.Levels.{levels_right, levels_none, levels_there}
+use Rattle.std.proofs.Common.{◌≡◌, refl, subst, rules, List, set}
+use Rattle.std.specs.Prelude.{None, true}
+use Rattle.book.specs.Shape.{Child}
+use Rattle.book.specs.Tables.{TakenAll, wrong}
+use Rattle.book.proofs.Marks.{take_none, take_late, take_used, take_other, take_right}
 use Rattle.book.proofs.children.take_child.Goals as goal
 
-pub returns-then-group-eq0 : goal.returns-then-group-eq0
-returns-then-group-eq0 c =
-    let a = c.args in
-    let group = c.child_in-group.ensures in record { takes = λ rs g cs is u. take_none u g a.x (group g is) c.if-group-eq0.true; value = λ right g is. levels_none a.depths.now a.x g (group g is) c.if-group-eq0.true }
+pub returns-in_default : goal.returns-in_default
+returns-in_default c = λ rs cs u.
+    subst (λ (l : List Child). TakenAll rs c.args.n cs l 0 c.args.trees.now) c.in_default.ensures (take_none u)
 
-pub returns-then-n-x : goal.returns-then-n-x
-returns-then-n-x c = record {
-  takes = λ rs g cs is u.
-      take_late u g c.args.x (c.child_in-group.ensures g is) (omega arith)
-      c.if-group-eq0.false
-      (omega arith);
-  value = λ right. absurd (right refl);
-}
+pub returns-else-x-n : goal.returns-else-x-n
+returns-else-x-n c = λ rs cs u.
+    (subst (λ (l : List Child). wrong rs c.args.n cs l ≡ true) c.in-Some.ensures (take_late u c.in-Some.group c.args.x c.if-x-n.false), refl)
 
-pub returns-then-roots-k : goal.returns-then-roots-k
-returns-then-roots-k c = record {
-  takes = λ rs g cs is u.
-      take_other u g c.args.x (c.child_in-group.ensures g is) (omega arith)
-      c.if-group-eq0.false
-      (omega arith)
-      c.if-roots-k.true;
-  value = λ right. absurd (right refl);
-}
+pub returns-in_default-tree : goal.returns-in_default-tree
+returns-in_default-tree c = λ rs cs u.
+    (subst (λ (l : List Child). wrong rs c.args.n cs l ≡ true) c.in-Some.ensures (take_used u c.in-Some.group c.args.x c.if-x-n.true c.in_default-tree.is), refl)
 
-pub returns : goal.returns
-returns c =
-    let a = c.args in
-    let some_is = c.if-group-eq0.false in
-    let group = c.child_in-group.ensures in record {
-      takes = λ rs g cs is u.
-          take_root u g a.x (group g is) (omega arith) some_is (levels_right a.depths.now c.requires.few_levels a.x) (omega arith)
-          c.if-roots-k.false;
-      value = λ right g is. levels_there a.depths.now a.x g (group g is) some_is;
-    }
+pub returns-else-eq : goal.returns-else-eq
+returns-else-eq c = λ rs cs u. (
+  subst (λ (l : List Child). wrong rs c.args.n cs l ≡ true) c.in-Some.ensures
+      (take_other u c.in-Some.group c.args.x c.if-x-n.true c.in-Some-tree.tree c.in-Some-tree.is (search rules)),
+  refl,
+)
+
+pub returns-then-eq : goal.returns-then-eq
+returns-then-eq c = λ rs cs u.
+    let same : c.in-Some-tree.tree.group ≡ c.in-Some.group = search rules in
+    subst (λ (l : List Child). TakenAll rs c.args.n cs l c.in-Some-tree.tree.levels (set c.args.trees.now c.args.x None)) c.in-Some.ensures
+    (take_right u c.in-Some.group c.args.x c.if-x-n.true c.requires c.in-Some-tree.tree c.in-Some-tree.is same)

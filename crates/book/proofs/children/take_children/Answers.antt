@@ -1,69 +1,40 @@
--- `book::children::take_children` meets its contract. Fields a, b and c are looked at one behind the other, up to the first with a wrong child;
--- behind three right ones the most levels are answered.
+-- `book::children::take_children` meets its contract: field by field, until a child is wrong.
 -- Assumes nothing.
-use mathlib.Core.Path.{refl, sym, ◌∙◌}
-use borrow.Author.Rules.{rules}
-use borrow.Author.Tests.{eq-eqb, ne_eqb}
-use Rattle.book.specs.Shape.{children_by}
-use Rattle.book.specs.Rows.{row_at}
-use Rattle.book.proofs.Cells.{row_below}
-use Rattle.book.proofs.Marks.{wrong_a, wrong_b, in_c}
-use Rattle.book.proofs.Levels.{deepest_by, deepest_right}
+use Rattle.std.proofs.Common.{[], ◌++◌, List}
+use Rattle.std.proofs.lemmas.Result.{err_from_is_err_and}
+use Rattle.book.specs.Shape.{Child, child_in}
+use Rattle.book.specs.Rows.{field_from}
+use Rattle.book.proofs.Marks.{then_wrong, then_other, then_right}
 use Rattle.book.proofs.children.take_children.Goals as goal
 
-pub returns-then-a : goal.returns-then-a
-returns-then-a c =
-    record {
-      takes = λ rs u.
-          wrong_a c.args.r c.args.row (row_below c.args.row c.requires.row_bound).1 u
-          c.cell.ensures (c.take_child-a.ensures.takes rs) (eq-eqb _ _ c.if-a.true);
-      value = λ right. absurd (right refl);
-    }
+pub returns-in_err-a : goal.returns-in_err-a
+returns-in_err-a c = λ rs u.
+    let p = err_from_is_err_and c.from_residual.result c.from_residual.ensures.1 in
+    let h = c.in_err-a.ensures rs [] u in
+    let (one, other, third) : List Child × List Child × List Child = (child_in (field_from c.args.row.now.a) c.args.r.now.a, child_in (field_from c.args.row.now.b) c.args.r.now.b, child_in (field_from c.args.row.now.c) c.args.r.now.c) in
+    rw (p.1, p.2) (then_wrong rs c.args.n [] (one ++ other) third (then_wrong rs c.args.n [] one other h.0), h.1)
 
-pub returns-then-b : goal.returns-then-b
-returns-then-b c =
-    record {
-      takes = λ rs u.
-          wrong_b c.args.r c.args.row (row_below c.args.row c.requires.row_bound).1 u
-          c.cell.ensures (c.take_child-a.ensures.takes rs) (ne_eqb _ _ c.if-a.false)
-          c.cell-2.ensures (c.take_child-b.ensures.takes rs) (eq-eqb _ _ c.if-b.true);
-      value = λ right. absurd (right refl);
-    }
+pub returns-in_err-b : goal.returns-in_err-b
+returns-in_err-b c = λ rs u.
+    let p = err_from_is_err_and c.from_residual-in_err-b.result c.from_residual-in_err-b.ensures.1 in
+    let (one, other, third) : List Child × List Child × List Child = (child_in (field_from c.args.row.now.a) c.args.r.now.a, child_in (field_from c.args.row.now.b) c.args.r.now.b, child_in (field_from c.args.row.now.c) c.args.r.now.c) in
+    let a = c.in_ok-a.ensures rs [] u in
+    let h = c.in_err-b.ensures rs one a.left in
+    rw (p.1, p.2) (then_wrong rs c.args.n [] (one ++ other) third (then_other rs c.args.n [] one other a.right h.0), h.1)
 
-pub returns-then-c : goal.returns-then-c
-returns-then-c c =
-    record {
-      takes = λ rs u.
-          in_c c.args.r c.args.row (row_below c.args.row c.requires.row_bound).1 u
-          c.cell.ensures (c.take_child-a.ensures.takes rs) (ne_eqb _ _ c.if-a.false)
-          c.cell-2.ensures (c.take_child-b.ensures.takes rs) (ne_eqb _ _ c.if-b.false)
-          c.cell-3.ensures (c.take_child-c.ensures.takes rs) (eq-eqb _ _ c.if-c.true);
-      value = λ right. absurd (right refl);
-    }
+pub returns-in_err-c : goal.returns-in_err-c
+returns-in_err-c c = λ rs u.
+    let p = err_from_is_err_and c.from_residual-in_err-c.result c.from_residual-in_err-c.ensures.1 in
+    let (one, other, third) : List Child × List Child × List Child = (child_in (field_from c.args.row.now.a) c.args.r.now.a, child_in (field_from c.args.row.now.b) c.args.r.now.b, child_in (field_from c.args.row.now.c) c.args.r.now.c) in
+    let a = c.in_ok-a.ensures rs [] u in
+    let b = then_right rs c.args.n [] one a (c.in_ok-b.ensures rs one a.left) in
+    let h = c.in_err-c.ensures rs (one ++ other) b.left in
+    rw (p.1, p.2) (then_other rs c.args.n [] (one ++ other) third b.right h.0, h.1)
 
 pub returns : goal.returns
-returns c =
-    let depths = c.args.depths.now in
-    let deepest =
-    deepest_by depths c.args.r c.args.row c.requires.row_bound
-    c.cell.ensures (c.take_child-a.ensures.value c.if-a.false)
-    c.cell-2.ensures (c.take_child-b.ensures.value c.if-b.false)
-    c.cell-3.ensures (c.take_child-c.ensures.value c.if-c.false)
-    c.larger.ensures c.larger-2.ensures in
-    let right = deepest_right depths c.requires.few_levels (children_by c.args.r (row_at c.args.row)) deepest in record {
-      takes = λ rs u.
-          in_c c.args.r c.args.row (row_below c.args.row c.requires.row_bound).1 u
-          c.cell.ensures (c.take_child-a.ensures.takes rs) (ne_eqb _ _ c.if-a.false)
-          c.cell-2.ensures (c.take_child-b.ensures.takes rs) (ne_eqb _ _ c.if-b.false)
-          c.cell-3.ensures (c.take_child-c.ensures.takes rs) (ne_eqb _ _ c.if-c.false ∙ sym right);
-      value = λ _. deepest;
-    }
-
-pub cell-requires : goal.cell-requires
-cell-requires c = record { row_bound = search rules; shape_table = c.requires.shape_table }
-
-pub cell-requires-2 : goal.cell-requires-2
-cell-requires-2 c = record { row_bound = search rules; shape_table = c.requires.shape_table }
-
-pub cell-requires-3 : goal.cell-requires-3
-cell-requires-3 c = record { row_bound = search rules; shape_table = c.requires.shape_table }
+returns c = λ rs u.
+    let (one, other) : List Child × List Child = (child_in (field_from c.args.row.now.a) c.args.r.now.a, child_in (field_from c.args.row.now.b) c.args.r.now.b) in
+    let a = c.in_ok-a.ensures rs [] u in
+    let b = then_right rs c.args.n [] one a (c.in_ok-b.ensures rs one a.left) in
+    let d = then_right rs c.args.n [] (one ++ other) b (c.in_ok-c.ensures rs (one ++ other) b.left) in
+    rw (c.max-2.ensures, c.max.ensures) d

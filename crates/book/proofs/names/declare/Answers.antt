@@ -1,31 +1,32 @@
 -- `book::names::declare` meets its contract. Each name has a byte in the table, and each set a bit in it; whether the byte of the record's name
 -- had the bit of its set is the answer.
 -- Assumes nothing.
-use Prim.Native.Nat.{◌<◌}
-use mathlib.Core.Path.{sym, ◌∙◌}
-use native.Mathlib.Omega.{arith}
-use Rattle.book.proofs.Declares.{name_low, bit_low, declares_none, declares_again, declares_new}
+use mathlib.Core.Bool.{not}
+use mathlib.Core.Path.{sym, ap, ◌∙◌}
+use Rattle.record.specs.declared.refusal.Cause.TheVariants as code
+use Rattle.book.specs.Tables.{unless}
+use Rattle.book.proofs.Declares.{bit_is_lem, name_low, declares_none, declares_again, declares_new}
 use Rattle.book.proofs.names.declare.Goals as goal
-use Rattle.book.proofs.names.declare.Goals.{After-struct_known-1}
 
 pub returns-then-bit-eq0 : goal.returns-then-bit-eq0
-returns-then-bit-eq0 c rs n known less is = declares_none known less is (sym c.name_bit-bit.ensures ∙ c.if-bit-eq0.true)
+returns-then-bit-eq0 c = λ rs known less is.
+    let (f, k) = declares_none known less is (sym (c.bit_of-bit.ensures ∙ bit_is_lem _ _ c.requires.kind) ∙ c.if-bit-eq0.true) in
+    record { answer_is = ap (λ b. unless (not b) code.Name c.args.n) f; names_are = k }
 
--- the record declares in a set, and has the name in field a
-a-name : (c : After-struct_known-1) → c.args.r.a < 4096
-a-name c = name_low _ c.name_bit-bit.ensures c.if-bit-eq0.false c.requires
+pub bounds-names-name : goal.bounds-names-name
+bounds-names-name c = name_low _ (c.bit_of-bit.ensures ∙ bit_is_lem _ _ c.requires.kind) c.if-bit-eq0.false c.requires.name
 
 pub returns-then-had-bit-eq1 : goal.returns-then-had-bit-eq1
-returns-then-had-bit-eq1 c rs n known less is =
-    declares_again known less is c.name_bit-bit.ensures c.if-bit-eq0.false (a-name (goal.at.returns-then-had-bit-eq1 c).After-struct_known-1) c.if-had-bit-eq1.true
+returns-then-had-bit-eq1 c = λ rs known less is.
+    let bit = c.bit_of-bit.ensures ∙ bit_is_lem _ _ c.requires.kind in
+    let (f, k) = declares_again known less is bit c.if-bit-eq0.false (name_low _ bit c.if-bit-eq0.false c.requires.name) c.if-had-bit-eq1.true in
+    record { answer_is = ap (λ b. unless (not b) code.Name c.args.n) f; names_are = k }
 
-pub overflow_add-names : goal.overflow_add-names
-overflow_add-names c =
-    omega (arith, bit_low _ c.name_bit-bit.ensures c.if-bit-eq0.false)
+pub bounds-names-name-2 : goal.bounds-names-name-2
+bounds-names-name-2 c = name_low _ (c.bit_of-bit.ensures ∙ bit_is_lem _ _ c.requires.kind) c.if-bit-eq0.false c.requires.name
 
 pub returns : goal.returns
-returns c rs n known less is =
-    declares_new known less is c.name_bit-bit.ensures c.if-bit-eq0.false (a-name (goal.at.returns c).After-struct_known-1) c.if-had-bit-eq1.false
-
-pub bounds-names-at-2 : goal.bounds-names-at-2
-bounds-names-at-2 c = a-name (goal.at.bounds-names-at-2 c).After-struct_known-1
+returns c = λ rs known less is.
+    let bit = c.bit_of-bit.ensures ∙ bit_is_lem _ _ c.requires.kind in
+    let (f, k) = declares_new known less is bit c.if-bit-eq0.false (name_low _ bit c.if-bit-eq0.false c.requires.name) c.if-had-bit-eq1.false in
+    record { answer_is = ap (λ b. unless (not b) code.Name c.args.n) f; names_are = k }

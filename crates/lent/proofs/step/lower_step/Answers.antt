@@ -1,22 +1,34 @@
--- `lent::step::lower_step` meets its contract: the front of the zeros is what is to be lent.
--- Assumes nothing.
-use Prim.Native.Nat.{ℕ, ◌≤◌, ◌*◌}
+-- The front of the zeros is what is to be lent; what `lower_counted` and `written` ensure is then all that the law asks.
+use Prim.Native.Nat.{ℕ, ◌*◌, min}
 use mathlib.Core.List.{List}
-use mathlib.Core.Path.{sym, ap, ◌∙◌}
+use mathlib.Core.Path.{◌≡◌, ap, ◌∙◌}
 use native.Mathlib.Omega.{arith}
-use lib.ListN.{length, length-replicate}
+use lib.ListN.{take, replicate}
+use Rattle.lower.specs.LowerBook.{lower_book}
+use Rattle.lower.specs.Counters.{counters_after}
 use Rattle.lent.specs.Lent.{bytes_for}
-use Rattle.lent.proofs.Stepping.{zeros_for}
+use Rattle.lent.proofs.Stepping.{Lowers, step_few, stepped, zeros_for}
 use Rattle.lent.proofs.step.lower_step.Goals as goal
+use Rattle.lent.proofs.step.lower_step.Goals.{After-written}
 
-pub slice_bounds-lower_through-end : goal.slice_bounds-lower_through-end
-slice_bounds-lower_through-end c =
-    let n = c.limit.result in
-    let few : n ≤ 256 = omega (arith, c.limit.ensures) in
-    sym (ap (λ (l : List ℕ). length l) (zeros_for n few) ∙ length-replicate (24 * n) 0)
+lowers_here :
+    (w : After-written) →
+    let a = w.args in
+    Lowers a.ctx a.book.now a.results.now a.room w.lower_counted-reply.result w.lower_counted-reply.new.results w.lower_counted-reply.new.diagnostics w.written.result
+lowers_here w =
+    let a = w.args in
+    let n = w.min.result in
+    let zeros : take {A = ℕ} (24 * n) (replicate 6144 0) ≡ bytes_for (min 256 a.room) =
+    zeros_for n (omega (arith, w.min.ensures)) ∙ ap bytes_for w.min.ensures in
+    record {
+      bytes = record { byte = λ i. (w.type_inv.book i).fits };
+      lowers = w.lower_counted-reply.ensures.lowered ∙ ap (λ (d : List ℕ). lower_book a.book.now a.results.now d) zeros;
+      counters = w.lower_counted-reply.ensures.ctx_value ∙ ap (λ (d : List ℕ). counters_after a.ctx a.book.now a.results.now d) zeros;
+      count = w.written.ensures;
+    }
 
-pub lower_through-requires : goal.lower_through-requires
-lower_through-requires c =
-    let n = c.limit.result in
-    let few : n ≤ 256 = omega (arith, c.limit.ensures) in
-    zeros_for n few ∙ ap bytes_for c.limit.ensures
+pub structs-requires : goal.structs-requires
+structs-requires c = step_few (lowers_here c)
+
+pub returns : goal.returns
+returns c = stepped (lowers_here (goal.at.returns c).After-written) _ c.structs.ensures

@@ -1,13 +1,39 @@
--- `lower::parts::lower_read` meets its contract. A book is small if a look at each of its names says so.
+-- `lower::parts::lower_read` meets its contract: the tables have room for the book.
 -- Assumes nothing.
-use mathlib.Core.Path.{sym, ◌∙◌}
-use Rattle.types.proofs.Below.{names_below_so}
+use Rattle.std.proofs.Common.{sym, ◌∙◌, arith}
+use Rattle.lower.proofs.Sizes.{fits_below, fits_held, constants_below}
+use Rattle.lower.proofs.Whole.{whole_read}
+use Rattle.types.proofs.Declared.{names_fit}
 use Rattle.lower.proofs.parts.lower_read.Goals as goal
 
-pub lower_least-requires : goal.lower_least-requires
-lower_least-requires c =
-    record { readable = c.requires; count_bound = (c.if-count-le84.true, names_below_so c.requires.0 64 (sym c.names_below.ensures ∙ c.if-names_below.true)) }
+pub lower_sized-requires-clause-names : goal.lower_sized-requires-clause-names
+lower_sized-requires-clause-names c =
+    constants_below c.args.book.now 84 (fits_below c.args.book.now 84 84 (sym c.fits.ensures ∙ c.if-fits.true))
 
-pub lower_small-requires : goal.lower_small-requires
-lower_small-requires c =
-    record { readable = c.requires; count_bound = (c.if-count-le336.true, names_below_so c.requires.0 256 (sym c.names_below-then-count-le336.ensures ∙ c.if-names_below-2.true)) }
+pub returns-then-fits : goal.returns-then-fits
+returns-then-fits c =
+    whole_read c.args.book.now c.laws.ensures 84 c.args.results.now c.args.diagnostics.now
+    (fits_below c.args.book.now 84 84 (sym c.fits.ensures ∙ c.if-fits.true))
+    (fits_held c.args.book.now 84 84 (sym c.fits.ensures ∙ c.if-fits.true)) c.lower_sized.ensures
+
+pub lower_sized-requires-then-fits-2-clause-names : goal.lower_sized-requires-then-fits-2-clause-names
+lower_sized-requires-then-fits-2-clause-names c =
+    constants_below c.args.book.now 336 (fits_below c.args.book.now 336 336 (sym c.fits-else-fits.ensures
+    ∙ c.if-fits-2.true))
+
+pub returns-then-fits-2 : goal.returns-then-fits-2
+returns-then-fits-2 c =
+    whole_read c.args.book.now c.laws.ensures 336 c.args.results.now c.args.diagnostics.now
+    (fits_below c.args.book.now 336 336 (sym c.fits-else-fits.ensures ∙ c.if-fits-2.true))
+    (fits_held c.args.book.now 336 336 (sym c.fits-else-fits.ensures ∙ c.if-fits-2.true))
+    c.lower_sized-then-fits-2.ensures
+
+pub lower_sized-requires-else-fits-2-clause-names : goal.lower_sized-requires-else-fits-2-clause-names
+lower_sized-requires-else-fits-2-clause-names c =
+    constants_below c.args.book.now 4096 (names_fit c.args.book.now c.laws.ensures)
+
+pub returns-else-fits-2 : goal.returns-else-fits-2
+returns-else-fits-2 c =
+    whole_read c.args.book.now c.laws.ensures 4096 c.args.results.now c.args.diagnostics.now
+    (names_fit c.args.book.now c.laws.ensures) (omega (arith, c.laws.ensures.few_records))
+    c.lower_sized-else-fits-2.ensures

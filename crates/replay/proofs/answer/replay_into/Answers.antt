@@ -1,6 +1,5 @@
--- `replay::answer::replay_into` meets its contract. The slices are filled, lowered into, and compared.
--- Assumes nothing.
-use lib.ListN.{length}
+-- The slices are filled, lowered into, and compared.
+use Rattle.std.proofs.Common.{length}
 use Rattle.replay.proofs.Founds.{all_found}
 use Rattle.replay.proofs.answer.replay_into.Goals as goal
 
@@ -9,4 +8,4 @@ returns c =
     let a = c.args in
     rw (c.found.ensures, c.slice_agrees-2.ensures, c.slice_agrees.ensures, c.reply_agrees.ensures, c.is_formed-formed.ensures)
     (all_found a.h a.book.now a.results.now a.diagnostics.now (length a.own.now) (length a.told.now) _
-    c.fill_pattern.ensures c.fill_pattern-2.ensures c.lower_book-reply.ensures c.lower_book-reply.auto.results c.lower_book-reply.auto.diagnostics)
+    c.fill.ensures c.fill-2.ensures c.lower_book-reply.ensures c.lower_book-reply.auto.results c.lower_book-reply.auto.diagnostics)

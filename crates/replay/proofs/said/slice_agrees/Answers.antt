@@ -1,18 +1,38 @@
--- `replay::said::slice_agrees` meets its contract. A slice is compared in two parts: its front, and the rest.
--- Assumes nothing.
-use lib.ListN.{length}
+-- A slice is compared in two parts: its front, and the rest.
+use Rattle.std.proofs.Common.{length, ◌∙◌, arith}
 use Rattle.replay.specs.Lent.{patterned}
-use Rattle.replay.proofs.Lefts.{left_accepted, left-refused}
+use Rattle.replay.proofs.Lefts.{left_accepted, left-refused, left-short}
 use Rattle.replay.proofs.said.slice_agrees.Goals as goal
 
-pub returns-then-cause-eq0 : goal.returns-then-cause-eq0
-returns-then-cause-eq0 c =
+pub returns-then-starts_with : goal.returns-then-starts_with
+returns-then-starts_with c =
     let a = c.args in
-    rw (c.starts_with.ensures, c.rest_as_lent.ensures)
-    (left_accepted a.p a.written.now a.left.now (patterned (length a.left.now) a.step a.first) c.if-cause-eq0.true)
+    c.goes_on.ensures
+    ∙ rw (← c.starts_with.ensures.value, c.if-starts_with.true) at
+    (left_accepted a.part a.written.now a.left.now (patterned (length a.left.now) a.lent.step a.lent.first) c.if-cause-eq0.true)
 
-pub returns-else-cause-eq0 : goal.returns-else-cause-eq0
-returns-else-cause-eq0 c =
+pub returns-else-starts_with : goal.returns-else-starts_with
+returns-else-starts_with c =
     let a = c.args in
-    rw (c.starts_with_zeros.ensures, c.rest_as_lent-else-cause-eq0.ensures)
-    (left-refused a.p a.written.now a.left.now (patterned (length a.left.now) a.step a.first) c.if-cause-eq0.false)
+    c.if-starts_with.false
+    ∙ rw (← c.starts_with.ensures.value, c.if-starts_with.false) at
+    (left_accepted a.part a.written.now a.left.now (patterned (length a.left.now) a.lent.step a.lent.first) c.if-cause-eq0.true)
+
+pub returns-then-left-n : goal.returns-then-left-n
+returns-then-left-n c =
+    let a = c.args in
+    left-short a.part a.written.now a.left.now (patterned (length a.left.now) a.lent.step a.lent.first) c.if-cause-eq0.false (omega arith)
+
+pub returns-then-all_zero : goal.returns-then-all_zero
+returns-then-all_zero c =
+    let a = c.args in
+    c.goes_on-then-all_zero.ensures
+    ∙ rw (← c.all_zero.ensures, c.if-all_zero.true) at
+    (left-refused a.part a.written.now a.left.now (patterned (length a.left.now) a.lent.step a.lent.first) c.if-cause-eq0.false (omega arith))
+
+pub returns-else-all_zero : goal.returns-else-all_zero
+returns-else-all_zero c =
+    let a = c.args in
+    c.if-all_zero.false
+    ∙ rw (← c.all_zero.ensures, c.if-all_zero.false) at
+    (left-refused a.part a.written.now a.left.now (patterned (length a.left.now) a.lent.step a.lent.first) c.if-cause-eq0.false (omega arith))

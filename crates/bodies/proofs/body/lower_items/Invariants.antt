@@ -1,0 +1,15 @@
+use Rattle.std.proofs.Common.{◌≡◌, drop}
+use Rattle.types.specs.Code.{state_of}
+use Rattle.bodies.specs.Code.{lower_items}
+use Rattle.bodies.proofs.body.lower_items.Given as goal
+
+abbrev pub invariant-loop-at : goal.invariant-loop-at
+invariant-loop-at g l =
+    record {
+      left :
+          lower_items l.delta (drop l.at l.behind) (state_of g.row.N l.lowering)
+          ≡ lower_items l.delta l.behind (state_of g.row.N l.initial.lowering);
+      names : l.lowering.names.ghost_name ≡ l.initial.lowering.names.ghost_name;
+      results : l.lowering.results.ghost_name ≡ l.initial.lowering.results.ghost_name;
+      diagnostics : l.lowering.diagnostics.ghost_name ≡ l.initial.lowering.diagnostics.ghost_name;
+    }

@@ -1,0 +1,124 @@
+//! Which records of a book are declarations, and which are declarations or items: noted once, in one pass over the kinds.
+
+ghost use Rattle.std.specs.Prelude.{◌≡◌, ◌||◌, cond, ◌+◌, ◌≤◌, ◌<◌, [], ◌∷◌, ◌++◌, length, take};
+ghost use Rattle.book.specs.Noted.{noted_of, declares, is_item};
+
+use crate::readable::Book;
+use record::kind::{Kind, UnknownKind};
+use std::marker::Model;
+
+/// Two lists of record numbers, each in book order, in arrays with their lengths, since nothing is allocated. A book has at
+/// most `R` records.
+#[derive(Drop)]
+pub struct Outline<const R: usize> {
+    declarations: [u16; R],
+    declared: usize,
+    outside: [u16; R],
+    noted: usize,
+}
+
+impl<const R: usize> Model for Outline<R> {
+    ghost use Rattle.std.specs.Prelude.{◌≤◌, length, take};
+    ghost use Rattle.book.specs.Noted.{Noted};
+
+    ghost Value = { Noted };
+
+    ghost view = { λ o. record { declarations = take o.declared o.declarations; outside = take o.noted o.outside } };
+
+    ghost invariant = { λ o. (o.declared ≤ length o.declarations) × (o.noted ≤ length o.outside) };
+}
+
+// Whether a kind is that of a declaration.
+fn declares(kind: Result<Kind, UnknownKind>) -> bool
+    ensures { result ≡ declares kind }
+{
+    matches!(
+        kind,
+        Ok(
+            Kind::Message
+                | Kind::Union
+                | Kind::Newtype
+                | Kind::Alias
+                | Kind::Constant
+                | Kind::Ambiguous
+        )
+    )
+}
+
+// Whether a kind is that of an item.
+fn is_item(kind: Result<Kind, UnknownKind>) -> bool
+    ensures { result ≡ is_item kind }
+{
+    matches!(
+        kind,
+        Ok(
+            Kind::TypeParameter
+                | Kind::Field
+                | Kind::Tombstone
+                | Kind::Variant
+                | Kind::Annotation
+                | Kind::Argument
+                | Kind::TombstoneArgument
+        )
+    )
+}
+
+// Whether a kind is that of a declaration or an item.
+fn is_outside(kind: Result<Kind, UnknownKind>) -> bool
+    ensures { result ≡ declares kind || is_item kind }
+{
+    declares(kind) || is_item(kind)
+}
+
+// Puts a number behind so many others, if it is one of those looked for; how many there are then.
+fn note(list: &mut [u16], count: usize, n: u16, found: bool) -> usize
+    requires { count < length list.old }
+    ensures list { take result list.new ≡ take count list.old ++ cond found (n ∷ []) [] }
+    ensures count { (count ≤ result) × (result ≤ count + 1) }
+{
+    if found {
+        list[count] = n;
+        count + 1
+    } else {
+        count
+    }
+}
+
+impl<const R: usize> Outline<R> {
+    /// The outline of a book.
+    pub fn of(book: &Book<'_>) -> Outline<R>
+        requires { length book.now.records ≤ R }
+        ensures { result ≡ noted_of book.now }
+    {
+        let mut declarations = [0u16; R];
+        let mut declared: usize = 0;
+        let mut outside = [0u16; R];
+        let mut noted: usize = 0;
+        book.laws();
+        for n in 0..book.len() {
+            let kind = book.kind(n);
+            declared = note(&mut declarations, declared, n, declares(kind));
+            noted = note(&mut outside, noted, n, is_outside(kind));
+        }
+        Outline {
+            declarations,
+            declared,
+            outside,
+            noted,
+        }
+    }
+
+    /// The numbers of the declarations.
+    pub fn declarations(&self) -> &[u16]
+        ensures { result.now ≡ self.now.declarations }
+    {
+        &self.declarations[..self.declared]
+    }
+
+    /// The numbers of the declarations and items.
+    pub fn outside(&self) -> &[u16]
+        ensures { result.now ≡ self.now.outside }
+    {
+        &self.outside[..self.noted]
+    }
+}

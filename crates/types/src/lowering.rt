@@ -1,0 +1,367 @@
+//! All that a lowering reads and writes, and what the resolvers do without a further step.
+
+ghost use Rattle.std.specs.Prelude.{◌≡◌, ◌≤◌};
+ghost use Rattle.record.specs.Kind.{kind_from};
+ghost use Rattle.record.specs.Written.{read_at};
+ghost use Rattle.types.specs.Begun.{begun};
+ghost use Rattle.types.specs.Code.{state_of, emit, tell, poison, message, type_expr, shifted, copy_one, copy_type};
+ghost use Rattle.types.specs.Code.{look_up, find_name, find_head, add_stub, add_pair, resolve_name, resolve_qualified};
+
+use crate::names::{Generic, Names, Place};
+use crate::{MOST_DIAGNOSTICS, MOST_RESULTS, POISON_TYPE_ID};
+use book::Book;
+use record::cursor::Cursor;
+use record::kind::Kind;
+use record::refusal::{Cause, Refusal};
+use record::type_id::{TypeId, named};
+use record::{Record, Span};
+
+/// All that a lowering reads and writes.
+#[derive(Drop)]
+pub struct Lowering<'b, 'n, 'r, 'd, const N: usize> {
+    pub book: &'b Book<'b>,
+    pub names: &'n mut Names<N>,
+    pub results: &'r mut [u8],
+    pub written: Cursor,
+    pub diagnostics: &'d mut [u8],
+    pub told: Cursor,
+    pub place: u16,
+}
+
+/// A type record, its children by their record numbers.
+#[derive(Clone, Copy)]
+pub enum TypeExpr {
+    /// One that is carried through: its result record.
+    Plain(Record),
+    Name(u16),
+    /// Namespace and name.
+    Qualified(u16, u16),
+    /// Head and argument.
+    Generic(u16, u16),
+    /// Sub, size and child.
+    One(u8, u64, u16),
+    /// Sub and children.
+    Two(u8, u16, u16),
+}
+
+/// What a name is found to be.
+#[derive(Clone, Copy)]
+pub enum Found {
+    Alias(Place),
+    Known(TypeId),
+    Stub,
+    Unresolved(u8),
+}
+
+/// What the head of a generic is found to be.
+#[derive(Clone, Copy)]
+pub enum Head {
+    Alias(Generic),
+    NoAlias,
+    NoNumber,
+}
+
+/// A diagnostic.
+pub fn message(m: u8, a: u16, b: u16, class: u64, span: Span) -> Record
+    ensures { result ≡ message m a b class span }
+{
+    Record::bare(Kind::Diagnostic, m, a, b, class).with_span(span)
+}
+
+// The type that a record is.
+pub(crate) fn type_expr(r: &Record) -> TypeExpr
+    ensures { result ≡ type_expr r.now (kind_from r.now.kind) }
+{
+    match r.kind() {
+        Ok(Kind::Primitive) => TypeExpr::Plain(Record::bare(Kind::Primitive, r.sub, 0, 0, 0)),
+        Ok(Kind::SubByte) => TypeExpr::Plain(Record::bare(Kind::SubByte, r.sub, r.a, 0, 0)),
+        Ok(Kind::Semantic) => TypeExpr::Plain(Record::bare(Kind::Semantic, r.sub, 0, 0, 0)),
+        Ok(Kind::Named) => TypeExpr::Name(r.a),
+        Ok(Kind::Qualified) => TypeExpr::Qualified(r.a, r.b),
+        Ok(Kind::Generic) => TypeExpr::Generic(r.a, r.b),
+        Ok(Kind::OverOne) => TypeExpr::One(r.sub, r.v, r.a),
+        Ok(Kind::OverTwo) => TypeExpr::Two(r.sub, r.a, r.b),
+        _ => TypeExpr::Plain(Record::bare(Kind::InlineBits, 0, r.a, 0, 0)),
+    }
+}
+
+// A record of a type, so much further on: its references move along.
+fn shifted(r: &Record, by: u16) -> Record
+    ensures { result ≡ shifted by r.now (kind_from r.now.kind) }
+{
+    match r.kind() {
+        Ok(Kind::OverOne) => Record {
+            a: r.a.saturating_add(by),
+            ..*r
+        },
+        Ok(Kind::OverTwo) => Record {
+            a: r.a.saturating_add(by),
+            b: r.b.saturating_add(by),
+            ..*r
+        },
+        _ => *r,
+    }
+}
+
+impl<'b, 'n, 'r, 'd, const N: usize> Lowering<'b, 'n, 'r, 'd, N> {
+    /// With nothing written, and nothing being lowered.
+    pub fn new(
+        book: &'b Book<'b>,
+        names: &'n mut Names<N>,
+        results: &'r mut [u8],
+        diagnostics: &'d mut [u8],
+    ) -> Self
+        ensures state { state_of N result ≡ begun N book.now names.old results.old diagnostics.old }
+        ensures names { result.names.ghost_name ≡ names.entry.ghost_name }
+        ensures results { result.results.ghost_name ≡ results.entry.ghost_name }
+        ensures diagnostics { result.diagnostics.ghost_name ≡ diagnostics.entry.ghost_name }
+    {
+        Lowering {
+            book,
+            names,
+            results,
+            written: Cursor {
+                count: 0,
+                most: MOST_RESULTS,
+            },
+            diagnostics,
+            told: Cursor {
+                count: 0,
+                most: MOST_DIAGNOSTICS,
+            },
+            place: 0,
+        }
+    }
+
+    /// Why the lowering stops, where it is.
+    pub fn refusal(&self, cause: Cause) -> Refusal
+        ensures { result ≡ record { cause = cause; place = self.now.place } }
+    {
+        Refusal {
+            cause,
+            place: self.place,
+        }
+    }
+
+    /// Writes a result; its number.
+    #[tactic(auto, unfolding(crate::specs::Code::emit))]
+    pub fn emit(&mut self, item: &Record) -> Result<u16, Refusal>
+        ensures answer { result ≡ (emit item.now (state_of N self.old)).answer }
+        ensures state { state_of N self.new ≡ (emit item.now (state_of N self.old)).state }
+        ensures names { self.new.names.ghost_name ≡ self.old.names.ghost_name }
+        ensures results { self.new.results.ghost_name ≡ self.old.results.ghost_name }
+        ensures diagnostics { self.new.diagnostics.ghost_name ≡ self.old.diagnostics.ghost_name }
+    {
+        match self.written.push(&mut *self.results, item) {
+            Ok(n) => Ok(n),
+            Err(_) => Err(self.refusal(Cause::Full)),
+        }
+    }
+
+    /// Writes a diagnostic.
+    #[tactic(auto, unfolding(crate::specs::Code::tell))]
+    pub fn tell(&mut self, item: &Record) -> Result<u16, Refusal>
+        ensures answer { result ≡ (tell item.now (state_of N self.old)).answer }
+        ensures state { state_of N self.new ≡ (tell item.now (state_of N self.old)).state }
+        ensures names { self.new.names.ghost_name ≡ self.old.names.ghost_name }
+        ensures results { self.new.results.ghost_name ≡ self.old.results.ghost_name }
+        ensures diagnostics { self.new.diagnostics.ghost_name ≡ self.old.diagnostics.ghost_name }
+    {
+        match self.told.push(&mut *self.diagnostics, item) {
+            Ok(n) => Ok(n),
+            Err(_) => Err(self.refusal(Cause::Full)),
+        }
+    }
+
+    // Writes a message, and poison for the type.
+    #[tactic(auto, unfolding(crate::specs::Code::poison))]
+    pub(crate) fn poison(
+        &mut self,
+        m: u8,
+        a: u16,
+        b: u16,
+        class: u64,
+        span: Span,
+    ) -> Result<u16, Refusal>
+        ensures answer { result ≡ (poison m a b class span (state_of N self.old)).answer }
+        ensures state { state_of N self.new ≡ (poison m a b class span (state_of N self.old)).state }
+        ensures names { self.new.names.ghost_name ≡ self.old.names.ghost_name }
+        ensures results { self.new.results.ghost_name ≡ self.old.results.ghost_name }
+        ensures diagnostics { self.new.diagnostics.ghost_name ≡ self.old.diagnostics.ghost_name }
+    {
+        self.tell(&message(m, a, b, class, span))?;
+        self.emit(&named(TypeId(POISON_TYPE_ID)))
+    }
+
+    /// How many results are written.
+    #[tactic(auto, unfolding(record::specs::Written::shown))]
+    pub fn result_count(&self) -> u16
+        ensures { result ≡ (state_of N self.now).results.count }
+    {
+        self.written.count
+    }
+
+    /// Result `n`, if it is written.
+    pub fn result_at(&self, n: u16) -> Option<Record>
+        ensures { result ≡ read_at (state_of N self.now).results n }
+    {
+        self.written.get(self.results, n)
+    }
+
+    // Copies record `at` of a type so much further on.
+    #[tactic(auto, unfolding(crate::specs::Code::copy_one))]
+    fn copy_one(&mut self, at: u16, by: u16) -> Result<u16, Refusal>
+        ensures answer { result ≡ (copy_one at by (state_of N self.old)).answer }
+        ensures state { state_of N self.new ≡ (copy_one at by (state_of N self.old)).state }
+        ensures names { self.new.names.ghost_name ≡ self.old.names.ghost_name }
+        ensures results { self.new.results.ghost_name ≡ self.old.results.ghost_name }
+        ensures diagnostics { self.new.diagnostics.ghost_name ≡ self.old.diagnostics.ghost_name }
+    {
+        match self.result_at(at) {
+            Some(r) => self.emit(&shifted(&r, by)),
+            None => Err(self.refusal(Cause::Full)),
+        }
+    }
+
+    // Copies the type that stands at a place; the number of its root.
+    #[tactic(auto, using(crate::proofs::Copies::copies), unfolding(crate::specs::Code::copy_type))]
+    fn copy_type(&mut self, place: Place) -> Result<u16, Refusal>
+        ensures answer { result ≡ (copy_type place (state_of N self.old)).answer }
+        ensures state { state_of N self.new ≡ (copy_type place (state_of N self.old)).state }
+        ensures names { self.new.names.ghost_name ≡ self.old.names.ghost_name }
+        ensures results { self.new.results.ghost_name ≡ self.old.results.ghost_name }
+        ensures diagnostics { self.new.diagnostics.ghost_name ≡ self.old.diagnostics.ghost_name }
+    {
+        let by = self.result_count().saturating_sub(place.first);
+        for at in place.first..place.root {
+            self.copy_one(at, by)?;
+        }
+        self.copy_one(place.root, by)
+    }
+
+    // The number of a name: its own, or that of a plain alias to one, which a result record has in 64 bits.
+    fn look_up(&self, name: u16) -> Option<u64>
+        requires { N ≤ 4096 }
+        ensures { result ≡ look_up name (state_of N self.now) }
+    {
+        if let Some(number) = self.names.number_of(name) {
+            return Some(number.0 as u64);
+        }
+        let place = self.names.alias_of(name)?;
+        let root = self.result_at(place.root)?;
+        match root.kind() {
+            Ok(Kind::Named) => Some(root.v),
+            _ => None,
+        }
+    }
+
+    // What a name is found to be.
+    fn find_name(&self, name: u16) -> Found
+        requires { N ≤ 4096 }
+        ensures { result ≡ find_name name (state_of N self.now) }
+    {
+        if let Some(place) = self.names.alias_of(name) {
+            return Found::Alias(place);
+        }
+        let number = self.names.number_of(name);
+        if let Some(number) = number {
+            if number.0 < self.names.types {
+                return Found::Known(number);
+            }
+        }
+        if self.names.is_ambiguous(name) {
+            return Found::Unresolved(0);
+        }
+        match number {
+            Some(number) => Found::Known(number),
+            None if self.book.wildcards() => Found::Stub,
+            None => Found::Unresolved(1),
+        }
+    }
+
+    // What the head of a generic is found to be.
+    pub(crate) fn find_head(&self, name: u16) -> Head
+        requires { N ≤ 4096 }
+        ensures { result ≡ find_head name (state_of N self.now) }
+    {
+        match self.look_up(name) {
+            None => Head::NoNumber,
+            Some(number) => match self.names.generic_of(number) {
+                None => Head::NoAlias,
+                Some(generic) => Head::Alias(generic),
+            },
+        }
+    }
+
+    // A stub for a name.
+    #[tactic(auto, unfolding(crate::specs::Code::add_stub))]
+    pub(crate) fn add_stub(&mut self, name: u16) -> Result<u16, Refusal>
+        requires { N ≤ 4096 }
+        ensures answer { result ≡ (add_stub name (state_of N self.old)).answer }
+        ensures state { state_of N self.new ≡ (add_stub name (state_of N self.old)).state }
+        ensures names { self.new.names.ghost_name ≡ self.old.names.ghost_name }
+        ensures results { self.new.results.ghost_name ≡ self.old.results.ghost_name }
+        ensures diagnostics { self.new.diagnostics.ghost_name ≡ self.old.diagnostics.ghost_name }
+    {
+        let root = self.emit(&named(TypeId(self.names.next)))?;
+        self.names.give_number(name);
+        Ok(root)
+    }
+
+    // A stub for a qualified name.
+    #[tactic(auto, unfolding(crate::specs::Code::add_pair))]
+    fn add_pair(&mut self, space: u16, name: u16) -> Result<u16, Refusal>
+        requires { N ≤ 4096 }
+        ensures answer { result ≡ (add_pair space name (state_of N self.old)).answer }
+        ensures state { state_of N self.new ≡ (add_pair space name (state_of N self.old)).state }
+        ensures names { self.new.names.ghost_name ≡ self.old.names.ghost_name }
+        ensures results { self.new.results.ghost_name ≡ self.old.results.ghost_name }
+        ensures diagnostics { self.new.diagnostics.ghost_name ≡ self.old.diagnostics.ghost_name }
+    {
+        let root = self.emit(&named(TypeId(self.names.next)))?;
+        self.names.add_pair(space, name);
+        Ok(root)
+    }
+
+    // The type that a name is.
+    #[tactic(auto, unfolding(crate::specs::Code::resolve_name))]
+    pub(crate) fn resolve_name(&mut self, name: u16, span: Span) -> Result<u16, Refusal>
+        requires { N ≤ 4096 }
+        ensures answer { result ≡ (resolve_name name span (state_of N self.old)).answer }
+        ensures state { state_of N self.new ≡ (resolve_name name span (state_of N self.old)).state }
+        ensures names { self.new.names.ghost_name ≡ self.old.names.ghost_name }
+        ensures results { self.new.results.ghost_name ≡ self.old.results.ghost_name }
+        ensures diagnostics { self.new.diagnostics.ghost_name ≡ self.old.diagnostics.ghost_name }
+    {
+        match self.find_name(name) {
+            Found::Alias(place) => self.copy_type(place),
+            Found::Known(number) => self.emit(&named(number)),
+            Found::Stub => self.add_stub(name),
+            Found::Unresolved(m) => self.poison(m, name, 0, 0, span),
+        }
+    }
+
+    // The type that a qualified name is.
+    #[tactic(auto, unfolding(crate::specs::Code::resolve_qualified))]
+    pub(crate) fn resolve_qualified(
+        &mut self,
+        space: u16,
+        name: u16,
+        span: Span,
+    ) -> Result<u16, Refusal>
+        requires { N ≤ 4096 }
+        ensures answer { result ≡ (resolve_qualified space name span (state_of N self.old)).answer }
+        ensures state { state_of N self.new ≡ (resolve_qualified space name span (state_of N self.old)).state }
+        ensures names { self.new.names.ghost_name ≡ self.old.names.ghost_name }
+        ensures results { self.new.results.ghost_name ≡ self.old.results.ghost_name }
+        ensures diagnostics { self.new.diagnostics.ghost_name ≡ self.old.diagnostics.ghost_name }
+    {
+        if let Some(number) = self.names.pair_number(space, name) {
+            return self.emit(&named(number));
+        }
+        match self.look_up(space) {
+            Some(_) => self.add_pair(space, name),
+            None => self.poison(2, space, name, 0, span),
+        }
+    }
+}
