@@ -64,6 +64,7 @@ impl<'a> Book<'a> {
     }
 
     /// The kind of record `n`.
+    #[inline(always)]
     pub fn kind(&self, n: u16) -> Result<Kind, UnknownKind>
         ensures { result ≡ kind_from (self.now ! n).kind }
     {

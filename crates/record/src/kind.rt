@@ -66,6 +66,7 @@ impl TryFrom<u8> for Kind {
 
     ghost try_from_gives = { Decodes };
 
+    #[inline(always)]
     #[tactic(auto, unfolding(crate::specs::Kind::kind_from))]
     fn try_from(code: u8) -> Result<Self, UnknownKind> {
         match code {

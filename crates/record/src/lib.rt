@@ -87,6 +87,7 @@ impl Record {
     }
 
     /// What the record is, if its first byte stands for a kind.
+    #[inline(always)]
     pub fn kind(&self) -> Result<Kind, UnknownKind>
         ensures { result ≡ kind_from self.now.kind }
     {
