@@ -17,7 +17,7 @@ HARNESS = HERE / 'vexil' / 'src' / 'harness'
 LIST = HERE / 'unreached.txt'
 # Other files of the original that the lowering calls.
 OTHERS = ['ir/types.rs', 'ir/mod.rs', 'diagnostic.rs', 'span.rs']
-# The functions that document 01 names: with all that they call, these are in scope.
+# The parts of the lowering (docs/FORMAT.md, 5.1): with all that they call, these are in scope.
 NAMED = ['register_declarations', 'lower_alias', 'evaluate_constants', 'lower_message', 'lower_union', 'lower_newtype']
 # What the harness calls besides. These two are in scope, but not what they call for declarations that are left out.
 CALLED = ['LowerCtx::new', 'lower_decl']
@@ -123,7 +123,7 @@ def calls(body, name):
 
 
 def scope_of(lower):
-    """The functions in scope, each with why: document 01 names it, the harness calls it, or functions in scope do."""
+    """The functions in scope, each with why: it is a part of the lowering, or the harness or functions in scope call it."""
     callees = {f.name: [g.name for g in lower.functions if calls(lower.body(f), g.name)] for f in lower.functions}
     inside, todo = set(), list(NAMED)
     while todo:
@@ -131,7 +131,7 @@ def scope_of(lower):
         if name not in inside:
             inside.add(name)
             todo += callees[name]
-    scope = {name: 'named by document 01' for name in NAMED} | {name: 'called by the harness' for name in CALLED}
+    scope = {name: 'a part of the lowering' for name in NAMED} | {name: 'called by the harness' for name in CALLED}
     for f in lower.functions:
         if f.name in inside and f.name not in scope:
             scope[f.name] = ', '.join(g.name for g in lower.functions if g.name in inside and f.name in callees[g.name])

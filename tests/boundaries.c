@@ -191,7 +191,7 @@ struct stretch {
     const char *what;
 };
 
-/* A book, its three counts, and what it writes. Document 01's order: plain aliases; constants, "always the earliest reached one whose declared
+/* A book, its three counts, and what it writes. The order of the format: plain aliases; constants, "always the earliest reached one whose declared
    references are done"; bodies. A type's records come before the record that refers to them, a diagnostic of a type before its poison. */
 struct known {
     const char *name;

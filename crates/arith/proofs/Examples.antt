@@ -1,4 +1,5 @@
--- The definitions at work: the examples that the standard library's documentation gives for each operation, and those of docs/FORMAT.md.
+-- The definitions at work: the examples that the standard library's documentation gives for each operation, and those
+-- of docs/FORMAT.md.
 -- Assumes nothing.
 use Prim.Native.Nat.{◌^◌, ◌-◌}
 use mathlib.Core.Option.{some, none}

@@ -1,5 +1,5 @@
--- Checked arithmetic of i64, as the standard library documents `i64::checked_add` and its kin: an exact result over the integers, given
--- where i64 holds it.
+-- Checked arithmetic of i64, as the standard library documents `i64::checked_add` and its kin: an exact result over the
+-- integers, given where i64 holds it.
 -- Assumes nothing.
 use Rattle.std.specs.Prelude.{cond, ◌&&◌, eqb, ℤ, ◌+ℤ◌, ◌-ℤ◌, ◌*ℤ◌, nat_abs, Option as Answer, Some, None}
 use Rattle.std.proofs.Math.Option.{Option, some, none}
@@ -19,8 +19,8 @@ checked_sub x y = fitting (x -ℤ y)
 unfoldable pub checked_mul : ℤ → ℤ → Option ℤ
 checked_mul x y = fitting (x *ℤ y)
 
--- "returning None if rhs == 0 or the division results in overflow". `quot_z` is rounded toward zero, as the Rust Reference says of `/`
--- ("Integer division rounds towards zero"), so only MIN / -1 overflows.
+-- "returning None if rhs == 0 or the division results in overflow". `quot_z` is rounded toward zero, as the Rust
+-- Reference says of `/` ("Integer division rounds towards zero"), so only MIN / -1 overflows.
 unfoldable pub checked_div : ℤ → ℤ → Option ℤ
 checked_div x y = cond (eqb (nat_abs y) 0) none (fitting (quot_z x y))
 

@@ -15,8 +15,9 @@ MAX = pos (2 ^ 63) -ℤ pos 1
 unfoldable pub signed : ℕ → ℤ
 signed w = pos (w % 2 ^ 63) -ℤ pos (2 ^ 63 * (w / 2 ^ 63))
 
--- `x as i64` for a u64 x: x where i64 holds it, else x - 2^64. "Casting between two integers of the same size (e.g. i32 -> u32) is a no-op
--- (Rust uses 2's complement for negative values of fixed integers)": the Rust Reference, "Type cast expressions".
+-- `x as i64` for a u64 x: x where i64 holds it, else x - 2^64. "Casting between two integers of the same size (e.g. i32
+-- -> u32) is a no-op (Rust uses 2's complement for negative values of fixed integers)": the Rust Reference, "Type cast
+-- expressions".
 unfoldable pub as_i64 : ℕ → ℤ
 as_i64 x = cond (ltb x (2 ^ 63)) (pos x) (pos x -ℤ pos (2 ^ 64))
 
@@ -25,8 +26,8 @@ unfoldable pub word : ℤ → ℕ
 word (pos n) = n
 word (negsuc n) = 2 ^ 64 - suc n
 
--- What is claimed of these; the proofs are in proofs/Words.antt. A word is known by the integer that it stands for, so a promise over
--- the integers leaves no bit open.
+-- What is claimed of these; the proofs are in proofs/Words.antt. A word is known by the integer that it stands for, so
+-- a promise over the integers leaves no bit open.
 abbrev pub WordAndBack : Type 0
 WordAndBack = (w : ℕ) → w < 2 ^ 64 → word (signed w) ≡ w
 

@@ -1,45 +1,35 @@
 -- The code lowers constants as the definitions say, and then bodies.
 -- Assumes nothing.
 use Rattle.std.proofs.Common.{◌≡◌, ℕ, List, [], ◌∷◌, map, length, refl, sym, subst, arith, ℤ, Option, Some}
-use Rattle.std.proofs.Common.{None, Result, Ok, Err}
+use Rattle.std.proofs.Common.{None}
 use Rattle.std.proofs.Math.Option.{Option as Maybe, some, none}
 use Rattle.record.specs.declared.Record.{Record}
-use Rattle.record.specs.declared.refusal.Refusal.{Refusal}
 use Rattle.arith.specs.Checked.{answer}
 use Rattle.book.specs.Outline.{Book, ◌!◌, numbers_of}
 use Rattle.book.specs.Noted.{is_outside}
 use Rattle.book.specs.Trees.{WellFormed}
 use Rattle.constants.specs.Order.{Settled}
 use Rattle.constants.specs.Given.{answered, told}
-use Rattle.types.specs.Lowering.{State, moved, Out, finished, stopped}
+use Rattle.types.specs.Lowering.{State, moved}
 use Rattle.types.specs.Resolved.{Names}
 use Rattle.types.specs.Step.{Step, ◌>>=◌, ◌>>◌, give, at, emit, tell, message}
 use Rattle.types.specs.Numbers.{type_declarations}
 use Rattle.types.specs.Resolve.{resolve_type}
-use Rattle.types.specs.Stands.{Lent, Stands, Ends, Done, Does, Roots, Always}
+use Rattle.types.specs.Stands.{Lent, Stands, Does, Roots, Always}
 use Rattle.types.specs.Code as code
 use Rattle.types.specs.Walk.{walked}
-use Rattle.types.proofs.Refining.{does_then, does_next, does_map, does_give, does_at, stands_moved}
+use Rattle.types.proofs.Refining.{does_then, does_next, does_give, does_at, stands_moved}
 use Rattle.types.proofs.Emits.{does_tell}
+use Rattle.types.proofs.Resolves.{does_resolve_type}
 use Rattle.bodies.specs.Constant.{tell_unless, constant_record, lower_constant, lower_constants}
 use Rattle.bodies.specs.Bodies.{lower_bodies}
-use Rattle.bodies.specs.Agrees.{LowersAsDefined}
+use Rattle.bodies.specs.Agrees.{ConstantsAsDefined, BodiesAsDefined, LowersAsDefined}
 use Rattle.bodies.specs.Code as bodies
-use Rattle.bodies.proofs.Members.{does_write, does_type}
+use Rattle.bodies.proofs.Constraints.{does_made}
+use Rattle.bodies.proofs.Members.{does_write}
 use Rattle.bodies.proofs.Lowered.{bodies_from}
 
 module _ (lent : Lent) (book : Book) where
-  -- an answer that is not used
-  forget : (rs : List Record) (r : Result ℕ Refusal) (c : code.State) (o : Out (Unit × Names))
-      → Ends lent (Done lent book rs (Always {A = ℕ} {B = Unit})) r c o
-      → Ends lent (Done lent book rs (Always {A = Unit} {B = Unit}))
-      (code.after r c (λ n t. code.done (tt {0}) t)).answer
-      (code.after r c (λ n t. code.done (tt {0}) t)).state o
-  forget rs (Ok n) c (finished a s) d = record { stands = d.stands; grown = d.grown; holds = tt }
-  forget rs (Err e) c (stopped x p) d = d
-  forget rs (Ok n) c (stopped x p) d = absurd d
-  forget rs (Err e) c (finished a s) d = absurd d
-
   does_tell_unless : (v : Option ℤ) (n : ℕ) (c : code.State) (k : Names) (s : State) → Stands lent book c k s
       → Does lent book Always (bodies.tell_unless v (book ! n) c)
       (tell_unless (answer v) (message 5 (book ! n).a 0 2 (book ! (book ! n).c).span)) k s
@@ -50,9 +40,8 @@ module _ (lent : Lent) (book : Book) where
       subst (λ (d : Book). Does lent book Always
       (code.next (code.tell (code.message 5 (book ! n).a 0 2 (d ! (book ! n).c).span) c)
       (λ i t. code.done (tt {0}) t)) (tell r) k s) (sym h.book_is)
-      (forget s.results (code.tell r c).answer (code.tell r c).state _
-      (does_map lent book (λ i u k' rs. (k' ≡ k) × (rs ≡ s.results)) Always (code.tell r c) (tell r) k s
-      (λ i u k' rs v. tt) (does_tell lent book c k s h r)))
+      (does_made lent book (λ i u k' rs. (k' ≡ k) × (rs ≡ s.results)) Always (code.tell r c) (tell r) (λ i. tt {0}) k s
+      (λ i u k' rs v. tt) (does_tell lent book c k s h r))
 
   -- a constant by its record number and its value
   constant' : ℕ → Maybe ℤ → Step Unit
@@ -104,7 +93,7 @@ module _ (lent : Lent) (book : Book) where
       (resolve_type book (book ! n).b >>= λ t. first' (answer v) n t.root) k s
       (does_then lent book (Roots k s.results) Always (walked (book ! n).b c') (resolve_type book (book ! n).b)
       (λ root t. first v n root t) (λ t. first' (answer v) n t.root) k (moved n s)
-      (does_type lent book (book ! n).b c' k (moved n s) (stands_moved lent book n c k s h))
+      (does_resolve_type lent book (book ! n).b c' k (moved n s) (stands_moved lent book n c k s h))
       (λ root c₁ t k₁ s₁ st grown w.
       subst (λ (i : ℕ). Does lent book Always (first v n root c₁) (first' (answer v) n i) k₁ s₁) w.root_is
       (does_first v n root c₁ k₁ s₁ st)))))
@@ -122,6 +111,12 @@ module _ (lent : Lent) (book : Book) where
       → Does lent book Always (bodies.lower_bodies (numbers_of is_outside book) c) (lower_bodies book) k s
   unfolding numbers_of lower_bodies type_declarations
   does_bodies sound c k s h = bodies_from lent book sound (length book.records) 0 (omega arith) c k s h
+
+pub constants_as_defined : ConstantsAsDefined
+constants_as_defined book xs lent c k s h = does_constants lent book xs c k s h
+
+pub bodies_as_defined : BodiesAsDefined
+bodies_as_defined book sound lent c k s h = does_bodies lent book sound c k s h
 
 pub lowers_as_defined : LowersAsDefined
 lowers_as_defined book sound xs lent c k s h =

@@ -10,10 +10,12 @@ use Rattle.std.proofs.Math.Seq.{drop-cons}
 use Rattle.std.proofs.lemmas.Bool.Decides.{nat_tests}
 use Rattle.record.specs.declared.Record.{Record}
 use Rattle.record.specs.Kind.{kind_from}
+use Rattle.record.specs.Reference.{reference, reference_number}
 use Rattle.book.specs.Lists.{any, find, keep, keep_while, from}
 use Rattle.book.specs.Faults.{record_of, is_kind}
 use Rattle.book.specs.Outline.{Book, ◌!◌, is_one_of, notes}
 use Rattle.bodies.specs.declared.encoding.Annotations.{Annotations}
+use Rattle.bodies.specs.declared.encoding.Argument.TheVariants as arguments
 use Rattle.bodies.specs.declared.encoding.Encoding.TheVariants as codes
 use Rattle.bodies.specs.declared.encoding.Annotation.TheVariants as annotations
 use Rattle.types.specs.Resolved.{ResolvedType, primitive, sub_byte, semantic, named, one_child, two_children}
@@ -23,7 +25,7 @@ use Rattle.bodies.specs.Encoding.{default, varint, zigzag, FieldEncoding, has_an
 use Rattle.bodies.specs.Encoding.{compute_field_encoding, Inner, delta_inner, under_inner, under_delta}
 use Rattle.bodies.specs.Bodies.{first_string}
 use Rattle.bodies.specs.Annotated.{encoding_of, limit_of, field_encoding_of, no_annotations, encoded, with_annotation}
-use Rattle.bodies.specs.Annotated.{with_argument, annotation_from, inner_at, under_root}
+use Rattle.bodies.specs.Annotated.{with_argument, annotation_from, argument_from, is_number, inner_at, under_root}
 use Rattle.bodies.specs.Code as code
 use Rattle.bodies.proofs.Looking.{Note, an_annotation, an_argument, a_parameter, a_reason, no_note, note_of, one_of}
 
@@ -82,10 +84,6 @@ or_more : (a b c : Bool) → (a || b) || c ≡ a || (elim b [ true ↦ true | fa
 or_more true b c = refl
 or_more false true c = refl
 or_more false false c = refl
-
-and_none : (a : Bool) → a && false ≡ false
-and_none true = refl
-and_none false = refl
 
 clash : (n i j : ℕ) → eqb n i ≡ true → eqb n j ≡ true → eqb i j ≡ false → ⊥
 clash n i j p q r = grind (arith, nat_tests)
@@ -151,6 +149,24 @@ sees_none s = record {
     go (Some n) = refl
     go None = refl
 
+-- a number among the values, by the sub
+numeric : (sub : ℕ) → is_number (argument_from sub) ≡ ltb sub 2
+numeric sub = go (eqb sub 0) (eqb sub 1) refl refl
+  where
+    go : (a b : Bool) → eqb sub 0 ≡ a → eqb sub 1 ≡ b
+        → is_number (cond a arguments.Int (cond b arguments.Hex arguments.Other)) ≡ ltb sub 2
+    go true b p q = let e : ltb sub 2 ≡ true = grind (arith, nat_tests) in sym e
+    go false true p q = let e : ltb sub 2 ≡ true = grind (arith, nat_tests) in sym e
+    go false false p q = let e : ltb sub 2 ≡ false = grind (arith, nat_tests) in sym e
+
+-- a reference that is missing, by its number
+missing : (n : ℕ) → is_none (reference n) ≡ eqb n 65535
+missing n = go (eqb n 65535)
+  where
+    go : (b : Bool) → is_none (if b then None else Some n) ≡ b
+    go true = refl
+    go false = refl
+
 -- one note more
 module _ (rest : List Record) (f : Annotations → Annotations) (seen : (s : Annotations) → Sees rest s (f s))
     (s : Annotations) (r : Record) where
@@ -200,7 +216,9 @@ module _ (rest : List Record) (f : Annotations → Annotations) (seen : (s : Ann
   sees_argument =
       let s' : Annotations = with_argument s (with_kind 35 r) in
       let c : Bool = s.limiting && is_none s.limit && ltb r.sub 2 && eqb r.a 65535 in
-      let is : s' ≡ record s { limit = cond c (Some r.v) s.limit } = kept c in
+      let is : s' ≡ record s { limit = cond c (Some r.v) s.limit } =
+      (λ i. cond (s.limiting && is_none s.limit && numeric r.sub i && missing r.a i) (record s { limit = Some r.v }) s)
+      ∙ kept c in
       record {
         varint_is = (seen s').varint_is ∙ ap (λ (x : Annotations). x.varint || has_annotation 0 rest) is;
         zigzag_is = (seen s').zigzag_is ∙ ap (λ (x : Annotations). x.zigzag || has_annotation 1 rest) is;
@@ -263,27 +281,30 @@ module _ (key : ℕ) where
   unfolding first_string find
   string_on r rest e = rw (first_string, find, e)
 
-  module _ (rest : List Record) (later : ℕ) (same : later ≡ first_string key rest) (r : Record) where
+  module _ (rest : List Record) (later : Option ℕ) (same : reference_number later ≡ first_string key rest)
+      (r : Record) where
     Told : ℕ → Type 0
-    Told k = code.string_by (kind_from k) key (with_kind k r) later
+    Told k = reference_number (code.string_by (kind_from k) key (with_kind k r) later)
         ≡ first_string key (cond (one_of (30 ∷ 34 ∷ 35 ∷ 36 ∷ []) k) (with_kind k r ∷ rest) [])
 
-    a_string : (b : Bool) → eqb r.sub key && not (eqb r.a 65535) ≡ b
-        → (if b then r.a else later) ≡ first_string key (with_kind 36 r ∷ rest)
-    a_string true e = string_here (with_kind 36 r) rest e
-    a_string false e = same ∙ sym (string_on (with_kind 36 r) rest e)
+    a_string : (p q : Bool) → eqb r.sub key ≡ p → eqb r.a 65535 ≡ q
+        → reference_number (if p then code.or_later (if q then None else Some r.a) later else later)
+        ≡ first_string key (with_kind 36 r ∷ rest)
+    a_string true true e f = same ∙ sym (string_on (with_kind 36 r) rest (λ i. e i && not (f i)))
+    a_string true false e f = string_here (with_kind 36 r) rest (λ i. e i && not (f i))
+    a_string false q e f = same ∙ sym (string_on (with_kind 36 r) rest (λ i. e i && not (eqb r.a 65535)))
 
     string_one : Note r.kind → Told r.kind
     unfolding Told any kind_from
     string_one (an_annotation e) = subst Told (sym e) (same ∙ sym (string_on (with_kind 34 r) rest refl))
     string_one (an_argument e) = subst Told (sym e) (same ∙ sym (string_on (with_kind 35 r) rest refl))
     string_one (a_parameter e) = subst Told (sym e) (same ∙ sym (string_on (with_kind 30 r) rest refl))
-    string_one (a_reason e) = subst Told (sym e) (a_string (eqb r.sub key && not (eqb r.a 65535)) refl)
+    string_one (a_reason e) = subst Told (sym e) (a_string (eqb r.sub key) (eqb r.a 65535) refl refl)
     string_one (no_note e seen strings) =
-        strings key r later ∙ string_none ∙ ap (λ (b : Bool). first_string key (cond b (r ∷ rest) [])) (sym e)
+        ap reference_number (strings key r later) ∙ string_none ∙ ap (λ (b : Bool). first_string key (cond b (r ∷ rest) [])) (sym e)
 
   pub strings_behind : (book : Book) (ms : List ℕ)
-      → code.first_string book key ms ≡ first_string key (notes_among book ms)
+      → reference_number (code.first_string book key ms) ≡ first_string key (notes_among book ms)
   unfolding code.first_string keep_while Told
   strings_behind book [] = string_none
   strings_behind book (m ∷ ms) =

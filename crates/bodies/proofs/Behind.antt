@@ -1,13 +1,16 @@
 -- One step along the records behind a declaration or an item.
 use Rattle.std.proofs.Common.{◌≡◌, ℕ, ◌+◌, ◌-◌, ◌<◌, ◌≤◌, Bool, List, length, get_or, take, drop, refl}
-use Rattle.std.proofs.Common.{add-one, length-drop, None}
+use Rattle.std.proofs.Common.{add-one, length-drop, true, None, Ok}
 use Rattle.std.proofs.Math.ListN.{drop_of_length-le}
 use Rattle.std.proofs.Math.Seq.{drop-cons, take-length}
-use Rattle.record.specs.Kind.{kind_from}
+use Rattle.record.specs.declared.kind.Kind.{Kind}
+use Rattle.record.specs.declared.kind.Kind.TheVariants.{Message, Union, Newtype, Alias, Constant, Ambiguous}
+use Rattle.record.specs.declared.kind.Kind.TheVariants.{Field, Tombstone, Variant}
+use Rattle.record.specs.Kind.{kind_from, is_declaration_kind}
 use Rattle.book.specs.Outline.{Book, ◌!◌}
 use Rattle.bodies.specs.declared.encoding.Annotations.{Annotations}
 use Rattle.constants.specs.declared.reached.Settled.{Settled}
-use Rattle.types.specs.Code.{State, done, next}
+use Rattle.types.specs.Code.{State, Outcome, done, next}
 use Rattle.bodies.specs.Code.{seen_by, seen_behind, string_by, first_string, item_by, lower_items, decl_by}
 use Rattle.bodies.specs.Code.{lower_bodies, lower_constant, lower_constants}
 
@@ -35,7 +38,7 @@ unfolding first_string
 string-next book key behind i h = rw (add-one, drop-cons behind i 0) refl
 
 pub string-end : (book : Book) (key : ℕ) (behind : List ℕ) (i : ℕ) → length behind ≤ i
-    → first_string book key (drop i behind) ≡ 65535
+    → first_string book key (drop i behind) ≡ None
 unfolding first_string
 string-end book key behind i h = rw (drop_of_length-le behind h) refl
 
@@ -50,6 +53,23 @@ pub items-end : (delta : Bool) (behind : List ℕ) (i : ℕ) (s : State) → len
     → lower_items delta (drop i behind) s ≡ done tt s
 unfolding lower_items
 items-end delta behind i s h = rw (drop_of_length-le behind h) refl
+
+-- a record that is no item
+module _ (kind : Kind) (delta : Bool) (n : ℕ) (behind : List ℕ) (s : State) (f : State → Outcome Unit) where
+  pub item-ends : is_declaration_kind kind ≡ true → item_by (Ok kind) delta n behind s f ≡ done tt s
+  item-ends e = go kind e
+    where
+      go : (kind : Kind) → is_declaration_kind kind ≡ true → item_by (Ok kind) delta n behind s f ≡ done tt s
+      go Field e = cc
+      go Tombstone e = cc
+      go Variant e = cc
+      go Message e = refl
+      go Union e = refl
+      go Newtype e = refl
+      go Alias e = refl
+      go Constant e = refl
+      go Ambiguous e = refl
+      go kind e = cc
 
 pub bodies-next : (outside : List ℕ) (i : ℕ) (s : State) → i < length outside
     → lower_bodies (drop i outside) s
@@ -76,6 +96,6 @@ constants-end xs i s h = rw (drop_of_length-le xs h) refl
 
 pub ruleset behind = (seen-next, seen-end, string-next, string-end)
 
-pub ruleset along = (items-next, items-end, bodies-next, bodies-end)
+pub ruleset along = (items-next, items-end, item-ends, bodies-next, bodies-end)
 
 pub ruleset settled = (constants-next, constants-end)

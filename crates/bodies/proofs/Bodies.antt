@@ -1,4 +1,5 @@
--- Constraints, encodings, messages, unions and newtypes: the records written are within their widths, if the book's are, and none is a 41.
+-- Constraints, encodings, messages, unions and newtypes: the records written are within their widths, if the book's
+-- are, and none is a 41.
 -- Assumes nothing.
 use Prim.Native.Nat.{ℕ, zero, suc, ◌^◌, ◌<◌}
 use mathlib.Core.Bool.{Bool, true, false, cond, ◌&&◌, not}

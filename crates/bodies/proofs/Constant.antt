@@ -1,5 +1,5 @@
--- The records of reached constants: within their widths, if the book's are and the values are i64s; one for each constant, in their order; as
--- many marked stored as are counted.
+-- The records of reached constants: within their widths, if the book's are and the values are i64s; one for each
+-- constant, in their order; as many marked stored as are counted.
 -- Assumes nothing.
 use Prim.Native.Nat.{ℕ, suc, ◌^◌, ◌<◌}
 use mathlib.Core.List.{List, [], ◌∷◌, map}

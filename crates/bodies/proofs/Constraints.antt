@@ -1,24 +1,29 @@
 -- The code lowers constraints as the definitions say.
 -- Assumes nothing.
-use Rattle.std.proofs.Common.{◌≡◌, ℕ, zero, suc, ◌+◌, ◌<◌, ◌≤◌, Bool, true, false, cond, List, [], ◌∷◌, ◌++◌, length}
-use Rattle.std.proofs.Common.{nat_lt, eqb, if◌then◌else◌, refl, sym, ◌∙◌, subst, arith, inl, inr}
+use Rattle.std.proofs.Common.{◌≡◌, ℕ, zero, suc, ◌+◌, ◌<◌, ◌≤◌, Bool, true, false, cond, List, length}
+use Rattle.std.proofs.Common.{nat_lt, eqb, if◌then◌else◌, refl, sym, subst, arith, ◌⊎◌, inl, inr, Option, Some, None}
+use Rattle.std.proofs.Common.{Result, Ok, Err}
 use Rattle.std.proofs.lemmas.Bool.Decides.{nat_tests}
 use Rattle.record.specs.declared.Record.{Record}
-use Rattle.record.specs.declared.kind.Kind.TheVariants.{Logic, Comparison, Range, Operand}
+use Rattle.record.specs.declared.kind.Kind.TheVariants.{Logic, Comparison, Range}
 use Rattle.record.specs.Kind.{kind_from}
+use Rattle.record.specs.declared.refusal.Refusal.{Refusal}
+use Rattle.record.specs.Reference.{reference, reference_number}
 use Rattle.record.specs.Made.{bare_record}
 use Rattle.book.specs.Lists.{All, keep}
 use Rattle.book.specs.Shape.{Group, constraint, table, Child, child_in, children}
 use Rattle.book.specs.Outline.{Book, ◌!◌}
 use Rattle.book.specs.Trees.{WellFormed, IsChild}
 use Rattle.book.proofs.Trees.{by_rows}
-use Rattle.types.specs.Lowering.{Lowering, State}
+use Rattle.types.specs.Lowering.{Lowering, State, Out, finished, stopped, run}
 use Rattle.types.specs.Resolved.{Names}
 use Rattle.types.specs.Step.{Step, ◌>>=◌, give, emit, bare}
-use Rattle.types.specs.Stands.{Lent, Stands, Does, SameNumber}
+use Rattle.types.specs.Stands.{Lent, limits, Stands, Holds, Ends, Done, Does, SameNumber}
 use Rattle.types.specs.Code as code
 use Rattle.types.proofs.Refining.{does_then, does_give}
 use Rattle.types.proofs.Emits.{does_emit_same}
+use Rattle.bodies.specs.declared.constraint.WhereOperand.TheVariants as operands
+use Rattle.bodies.specs.Annotated.{connective_from}
 use Rattle.bodies.specs.Constraint.{and_or, negated, operand, where_expr, lower_where_by, lower_where_expr}
 use Rattle.bodies.specs.Bodies.{unless_none}
 use Rattle.bodies.specs.Code as bodies
@@ -62,69 +67,59 @@ module _ (lent : Lent) (book : Book) where
       (over_one child child' b (r n) ok' c₁ k₁ s₁ st))
 
   module _ (child : ℕ → code.State → code.Outcome ℕ) (child' : ℕ → Step ℕ) (c : code.State) (k : Names) (s : State)
-      (h : Stands lent book c k s) where
+      (h₀ : Stands lent book c k s) where
     Lowers : Record → Type 0
     Lowers r = Does lent book SameNumber (bodies.where_by child r (kind_from r.kind) c)
         (lower_where_by child' (where_expr r)) k s
 
     -- And and Or, with two sides, and Not, with one
-    sides : (sub a b : ℕ) → Child_ok child child' a → Child_ok child child' b → nat_lt sub 2 ≡ true → eqb sub 2 ≡ false
-        → Does lent book SameNumber
-        (code.next (child a c) (λ n t. if nat_lt sub 2 then code.next (child b t)
-        (λ m u. code.emit (bare_record Logic sub n m 0) u) else code.emit (bare_record Logic sub n 0 0) t))
+    Connected : ℕ → ℕ → ℕ → Type 0
+    Connected a b sub = Does lent book SameNumber
+        (code.next (child a c) (λ n t. bodies.logic child sub b n (connective_from sub) t))
         (lower_where_by child' (cond (eqb sub 2) (negated a) (and_or sub a b))) k s
-    unfolding lower_where_by
-    sides sub a b ok ok' p q =
-        subst (λ (v : Bool). Does lent book SameNumber
-        (code.next (child a c) (λ n t. if v then code.next (child b t)
-        (λ m u. code.emit (bare_record Logic sub n m 0) u) else code.emit (bare_record Logic sub n 0 0) t))
-        (lower_where_by child' (cond (eqb sub 2) (negated a) (and_or sub a b))) k s) (sym p)
-        (subst (λ (v : Bool). Does lent book SameNumber
-        (code.next (child a c) (λ n t. code.next (child b t) (λ m u. code.emit (bare_record Logic sub n m 0) u)))
-        (lower_where_by child' (cond v (negated a) (and_or sub a b))) k s) (sym q)
-        (over_two child child' a b (λ n m. bare_record Logic sub n m 0) ok ok' c k s h))
 
-    negation : (sub a b : ℕ) → Child_ok child child' a → sub ≡ 2
-        → Does lent book SameNumber
-        (code.next (child a c) (λ n t. if nat_lt sub 2 then code.next (child b t)
-        (λ m u. code.emit (bare_record Logic sub n m 0) u) else code.emit (bare_record Logic sub n 0 0) t))
-        (lower_where_by child' (cond (eqb sub 2) (negated a) (and_or sub a b))) k s
-    unfolding lower_where_by
-    negation sub a b ok e =
-        subst (λ (i : ℕ). Does lent book SameNumber
-        (code.next (child a c) (λ n t. if nat_lt i 2 then code.next (child b t)
-        (λ m u. code.emit (bare_record Logic i n m 0) u) else code.emit (bare_record Logic i n 0 0) t))
-        (lower_where_by child' (cond (eqb i 2) (negated a) (and_or i a b))) k s) (sym e)
-        (over_one child child' a (λ n. bare_record Logic 2 n 0 0) ok c k s h)
+    low : (n : ℕ) → n ≤ 1 → (0 ≡ n) ⊎ (1 ≡ n)
+    low zero h = inl refl
+    low (suc zero) h = inr refl
+    low (suc (suc n)) h = absurd (omega arith)
+
+    sides : (a b sub : ℕ) → Child_ok child child' a → Child_ok child child' b → sub ≤ 1 → Connected a b sub
+    unfolding lower_where_by Connected
+    sides a b sub ok ok' h = go (low sub h)
+      where
+        go : (0 ≡ sub) ⊎ (1 ≡ sub) → Connected a b sub
+        go (inl e) = subst (Connected a b) e (over_two child child' a b (λ n m. bare_record Logic 0 n m 0) ok ok' c k s h₀)
+        go (inr e) = subst (Connected a b) e (over_two child child' a b (λ n m. bare_record Logic 1 n m 0) ok ok' c k s h₀)
+
+    negation : (a b sub : ℕ) → Child_ok child child' a → 2 ≡ sub → Connected a b sub
+    unfolding lower_where_by Connected
+    negation a b sub ok e =
+        subst (Connected a b) e (over_one child child' a (λ n. bare_record Logic 2 n 0 0) ok c k s h₀)
 
     leaf : (b : Bool) (sub a v : ℕ)
-        → Does lent book SameNumber (code.emit
-        (if b then bare_record Operand 0 0 0 0 else bare_record Operand sub a 0 v) c)
+        → Does lent book SameNumber (code.emit (bodies.operand_as (cond b operands.Value operands.Other) sub a v) c)
         (lower_where_by child' (cond b (operand 0 0 0) (operand sub a v))) k s
     unfolding lower_where_by
-    leaf true sub a v = does_emits lent book (bare 16 0 0 0 0 0) c k s h
-    leaf false sub a v = does_emits lent book (bare 16 sub a 0 0 v) c k s h
-
-    few : (n : ℕ) → n ≤ 1 → (nat_lt n 2 ≡ true) × (eqb n 2 ≡ false)
-    few n e = (grind (arith, nat_tests), grind (arith, nat_tests))
+    leaf true sub a v = does_emits lent book (bare 16 0 0 0 0 0) c k s h₀
+    leaf false sub a v = does_emits lent book (bare 16 sub a 0 0 v) c k s h₀
 
     -- by the rows: And and Or, Not, comparison, range; five of operands
     by_its_row : (P : Child → Type 0)
         → ((n : ℕ) → P (record { group = constraint; number = n }) → Child_ok child child' n)
         → ((n : ℕ) → P (record { group = Group.operand; number = n }) → Child_ok child child' n)
         → (r : Record) → Of r → All P (children r) → Lowers r
-    unfolding Lowers keep table child_in where_expr lower_where_by kind_from
+    unfolding Lowers Connected keep table child_in where_expr lower_where_by kind_from
     by_its_row P ok ok' r (inl is) =
         by_rows (λ r cs. All P cs → Lowers r) constraint r is (
-          λ l u p. let q = few r.sub u in sides r.sub r.a r.b (ok _ p.0) (ok _ p.1.0) q.0 q.1,
+          λ l u p. sides r.a r.b r.sub (ok _ p.0) (ok _ p.1.0) u,
           (
-            λ l u p. negation r.sub r.a r.b (ok _ p.0) (omega arith),
+            λ l u p. negation r.a r.b r.sub (ok _ p.0) (omega arith),
             (
               λ l u p. over_one child child' r.a (λ n. record (bare_record Comparison r.sub n 0 0) { c = r.c })
-                  (ok' _ p.0) c k s h,
+                  (ok' _ p.0) c k s h₀,
               (
                 λ l u p. over_two child child' r.a r.b (λ n m. record (bare_record Range r.sub n m 0) { c = r.c })
-                    (ok' _ p.0) (ok' _ p.1.0) c k s h,
+                    (ok' _ p.0) (ok' _ p.1.0) c k s h₀,
                 tt,
               ),
             ),
@@ -169,16 +164,38 @@ module _ (lent : Lent) (book : Book) where
         (enough (64 + n) (suc n) n c (omega arith) (omega arith))
         (within (64 + n) n (omega arith) inside is c k s h))
 
-  -- what may be missing
-  pub does_unless_none : (n : ℕ) (f : code.State → code.Outcome ℕ) (m : Step ℕ) (c : code.State) (k : Names)
-      (s : State) → Stands lent book c k s
-      → (eqb n 65535 ≡ false → Does lent book SameNumber (f c) m k s)
-      → Does lent book SameNumber (bodies.unless_none n f c) (unless_none n m) k s
-  unfolding unless_none
-  does_unless_none n f m c k s h there = go (eqb n 65535) there
+  -- the code makes something of its answer, and the definitions nothing
+  pub does_made :
+      {A B C : Type 0} (V : Holds A B) (W : Holds C B) (o : code.Outcome A) (m : Step B) (g : A → C) (k : Names)
+      (s : State) → ((n : A) (a : B) (k' : Names) (rs : List Record) → V n a k' rs → W (g n) a k' rs) →
+      Does lent book V o m k s → Does lent book W (code.next o (λ n t. code.done (g n) t)) m k s
+  does_made {A} {B} {C} V W o m g k s f h = go o.answer o.state (run (limits lent) (m k) s) h
     where
-      go : (b : Bool) → (b ≡ false → Does lent book SameNumber (f c) m k s)
-          → Does lent book SameNumber (if b then code.done 65535 c else f c)
+      go : (r : Result A Refusal) (c : code.State) (x : Out (B × Names)) → Ends lent (Done lent book s.results V) r c x
+          → Ends lent (Done lent book s.results W) (code.after r c (λ n t. code.done (g n) t)).answer
+          (code.after r c (λ n t. code.done (g n) t)).state x
+      go (Ok n) c (finished a t) d = record {
+        stands = d.stands;
+        grown = d.grown;
+        holds = f n a.0 a.1 t.results d.holds;
+      }
+      go (Err e) c (stopped y p) d = d
+      go (Ok n) c (stopped y p) d = absurd d
+      go (Err e) c (finished a t) d = absurd d
+
+  -- what may be missing: under one number here and there, or none
+  abbrev pub SameReference : Holds (Option ℕ) ℕ
+  SameReference n m k rs = reference_number n ≡ m
+
+  pub does_optional : (n : ℕ) (f : ℕ → code.State → code.Outcome ℕ) (m : Step ℕ) (c : code.State) (k : Names)
+      (s : State) → Stands lent book c k s
+      → (eqb n 65535 ≡ false → Does lent book SameNumber (f n c) m k s)
+      → Does lent book SameReference (bodies.optional f (reference n) c) (unless_none n m) k s
+  unfolding unless_none
+  does_optional n f m c k s h there = go (eqb n 65535) there
+    where
+      go : (b : Bool) → (b ≡ false → Does lent book SameNumber (f n c) m k s)
+          → Does lent book SameReference (bodies.optional f (if b then None else Some n) c)
           (λ t. elim b [ true ↦ give 65535 t | false ↦ m t ]) k s
-      go true f = does_give lent book SameNumber 65535 65535 c k s h refl
-      go false f = f refl
+      go true d = does_give lent book SameReference None 65535 c k s h refl
+      go false d = does_made SameNumber SameReference (f n c) m (λ i. Some i) k s (λ i j k' rs e. e) (d refl)

@@ -2,7 +2,6 @@ pub mod Bodies
 pub mod Constant
 pub mod Whole
 pub mod Rows
-pub mod Stored
 pub mod Behind
 pub mod Wherever
 pub mod Looking

@@ -1,7 +1,7 @@
 -- What a record is, as the code looks at it by its kind and the definitions by its number.
 -- Assumes nothing.
 use Rattle.std.proofs.Common.{◌≡◌, ℕ, Bool, true, false, ◌&&◌, List, [], ◌∷◌, leb, eqb}
-use Rattle.std.proofs.Common.{refl, ap, arith, Result}
+use Rattle.std.proofs.Common.{refl, ap, arith, Result, Option, None}
 use Rattle.std.proofs.lemmas.Bool.Decides.{nat_tests}
 use Rattle.record.specs.declared.Record.{Record}
 use Rattle.record.specs.declared.kind.Kind.{Kind}
@@ -43,7 +43,7 @@ pub data Note (n : ℕ) : Type 0 where
   no_note :
       one_of (30 ∷ 34 ∷ 35 ∷ 36 ∷ []) n ≡ false →
       ((r : Record) (s : Annotations) (f : Annotations → Annotations) → seen_by (kind_from n) r s f ≡ s) →
-      ((key : ℕ) (r : Record) (rest : ℕ) → string_by (kind_from n) key r rest ≡ 65535) →
+      ((key : ℕ) (r : Record) (rest : Option ℕ) → string_by (kind_from n) key r rest ≡ None) →
       Note n
 
 known_note : (k : Kind) → Note (code_of k)

@@ -17,6 +17,7 @@ use Rattle.types.specs.Stands.{Lent, Stands, Does, Roots, Always, SameNumber}
 use Rattle.types.specs.Code as code
 use Rattle.types.specs.Walk.{walked}
 use Rattle.types.proofs.Refining.{does_then, does_next, does_give, does_at, stands_moved}
+use Rattle.types.proofs.Resolves.{does_resolve_type}
 use Rattle.bodies.specs.Encoding.{has_annotation}
 use Rattle.bodies.specs.Bodies.{carried, lower_field, lower_tombstone, lower_variant, lower_item, lower_message}
 use Rattle.bodies.specs.Bodies.{lower_union, lower_newtype, lower_decl}
@@ -26,7 +27,7 @@ use Rattle.bodies.proofs.Looking.{one_of, declared, Item, a_field, a_tombstone, 
 use Rattle.bodies.proofs.Looking.{item_of, Declaration, a_message, a_union, a_newtype, another, declaration_of}
 use Rattle.bodies.proofs.Annotating.{outside_from, notes_among, notes_are, delta_seen}
 use Rattle.bodies.proofs.Constraints.{does_emits}
-use Rattle.bodies.proofs.Members.{does_write, does_type, does_field, does_tombstone, does_variant}
+use Rattle.bodies.proofs.Members.{does_write, does_field, does_tombstone, does_variant}
 
 -- the items among so many records from one on, up to the first declaration
 abbrev items_from : Book → ℕ → ℕ → List ℕ
@@ -251,7 +252,7 @@ module _ (lent : Lent) (book : Book) (sound : WellFormed book.records) where
         (resolve_type book (book ! n).b >>= λ t. g t.root) k s
         (does_then lent book (Roots k s.results) Always (walked (book ! n).b c') (resolve_type book (book ! n).b)
         (λ root t. bodies.write (carried 48 (book ! n).a root 0 (book ! n)) t) (λ t. g t.root) k (moved n s)
-        (does_type lent book (book ! n).b c' k (moved n s) (stands_moved lent book n c k s h))
+        (does_resolve_type lent book (book ! n).b c' k (moved n s) (stands_moved lent book n c k s h))
         (λ root c₁ t k₁ s₁ st grown v.
         subst (λ (i : ℕ). Does lent book Always (bodies.write (carried 48 (book ! n).a root 0 (book ! n)) c₁) (g i) k₁
         s₁)

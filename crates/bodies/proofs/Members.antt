@@ -5,6 +5,7 @@ use Rattle.std.proofs.Common.{eqb, refl, sym, ap, ◌∙◌, subst, arith, inl, 
 use Rattle.std.proofs.Common.{true≢false}
 use Rattle.std.specs.Prelude.{slice_get}
 use Rattle.record.specs.declared.Record.{Record}
+use Rattle.record.specs.Reference.{reference, reference_number}
 use Rattle.record.specs.Written.{Written, read_at}
 use Rattle.book.specs.Outline.{Book, ◌!◌, notes}
 use Rattle.book.specs.Lists.{keep}
@@ -15,14 +16,14 @@ use Rattle.types.specs.Lowering.{State, moved}
 use Rattle.types.specs.Resolved.{Names}
 use Rattle.types.specs.Step.{Step, Resolved, ◌>>=◌, ◌>>◌, give, at, emit}
 use Rattle.types.specs.Records.{below, type_records, StandsAt}
-use Rattle.types.specs.Resolve.{resolve_type, resolve_type_expr}
-use Rattle.types.specs.Stands.{Lent, Stands, Does, Roots, Resolves, Always, SameNumber}
+use Rattle.types.specs.Resolve.{resolve_type}
+use Rattle.types.specs.Stands.{Lent, Stands, Does, Roots, Always, SameNumber}
 use Rattle.types.specs.Code as code
-use Rattle.types.specs.Walk.{walked, resolve}
+use Rattle.types.specs.Walk.{walked}
 use Rattle.types.proofs.TypeRecords.{root_record}
 use Rattle.types.proofs.Placed.{standing, root_there}
 use Rattle.types.proofs.Refining.{does_then, does_next, does_give, does_as, does_at, stands_moved}
-use Rattle.types.proofs.Resolves.{resolves}
+use Rattle.types.proofs.Resolves.{does_resolve_type}
 use Rattle.bodies.specs.Encoding.{FieldEncoding, compute_field_encoding, under_delta, encoding_record}
 use Rattle.bodies.specs.Constraint.{lower_where_expr}
 use Rattle.bodies.specs.Bodies.{carried, unless_none, first_string, lower_field, lower_tombstone, lower_variant}
@@ -30,7 +31,7 @@ use Rattle.bodies.specs.Annotated.{no_annotations, field_encoding_of, encoded, u
 use Rattle.bodies.specs.Code as bodies
 use Rattle.bodies.proofs.Whole.{Of}
 use Rattle.bodies.proofs.Annotating.{notes_among, strings_behind, encoding_seen, delta_same}
-use Rattle.bodies.proofs.Constraints.{does_emits, does_where, does_unless_none}
+use Rattle.bodies.proofs.Constraints.{does_emits, does_where, SameReference, does_optional}
 
 module _ (lent : Lent) (book : Book) where
   -- one result, whatever its number
@@ -42,21 +43,12 @@ module _ (lent : Lent) (book : Book) where
       (does_emits lent book r c k s h)
       (λ n c₁ m k₁ s₁ st grown e. does_give lent book Always (tt {0}) (tt {0}) c₁ k₁ s₁ st tt)
 
-  -- the type of a declaration or an item
-  pub does_type : (n : ℕ) (c : code.State) (k : Names) (s : State) → Stands lent book c k s
-      → Resolves lent book (walked n c) (resolve_type book n) k s
-  unfolding resolve_type
-  does_type n c k s h =
-      subst (λ (d : Book). Resolves lent book (resolve 64 n (d ! n).span c)
-      (resolve_type_expr 64 book n (book ! n).span) k s) (sym h.book_is)
-      (resolves lent book 64 (omega arith) n (book ! n).span c k s h)
-
-  -- and by the number of its root
+  -- the type of a declaration or an item, by the number of its root
   pub does_root : (n : ℕ) (c : code.State) (k : Names) (s : State) → Stands lent book c k s
       → Does lent book SameNumber (walked n c) (resolve_type book n >>= λ t. give t.root) k s
   does_root n c k s h =
       does_as lent book (Roots k s.results) SameNumber (walked n c) (resolve_type book n) (λ (t : Resolved). t.root) k s
-      (λ i t k' rs v. v.root_is) (does_type n c k s h)
+      (λ i t k' rs v. v.root_is) (does_resolve_type lent book n c k s h)
 
   -- the root of a type that was resolved is read among the results
   root_read : (rs : List Record) (n : ℕ) (c : code.State) (t : Resolved) (k₀ k : Names) (s : State)
@@ -90,10 +82,10 @@ module _ (lent : Lent) (book : Book) (sound : WellFormed book.records) (n : ℕ)
   missing i e f = let g : eqb i 65535 ≡ true = eq-eqb i 65535 f in absurd (true≢false (sym g ∙ e))
 
   does_constraint : (book ! n).kind ≡ 31 → (c : code.State) (k : Names) (s : State) → Stands lent book c k s
-      → Does lent book SameNumber (bodies.lower_constraint (book ! n).c c)
+      → Does lent book (SameReference lent book) (bodies.lower_constraint (reference (book ! n).c) c)
       (unless_none (book ! n).c (lower_where_expr 64 book (book ! n).c)) k s
   does_constraint kind c k s h =
-      does_unless_none lent book (book ! n).c (λ t. bodies.lower_where_expr (book ! n).c t)
+      does_optional lent book (book ! n).c (λ i t. bodies.lower_where_expr i t)
       (lower_where_expr 64 book (book ! n).c) c k s h
       (λ e. let q = a_constraint kind (missing (book ! n).c e) in
       does_where lent book sound (book ! n).c q.0 q.1 c k s h)
@@ -117,8 +109,8 @@ module _ (lent : Lent) (book : Book) (sound : WellFormed book.records) (n : ℕ)
   -- what is left to do of a field when its type is resolved
   ending : Bool → ℕ → code.State → code.Outcome Unit
   ending delta root t =
-      code.next (bodies.lower_constraint (book ! n).c t) (λ c u.
-      code.next (code.emit (carried 45 (book ! n).a root c (book ! n)) u) (λ m v.
+      code.next (bodies.lower_constraint (reference (book ! n).c) t) (λ c u.
+      code.next (code.emit (carried 45 (book ! n).a root (reference_number c) (book ! n)) u) (λ m v.
       bodies.write (encoding_record (bodies.field_encoding delta root (bodies.seen_behind t.book behind no_annotations)
       t)) v))
 
@@ -140,25 +132,26 @@ module _ (lent : Lent) (book : Book) (sound : WellFormed book.records) (n : ℕ)
       (carried 45 (book ! n).a t.root i (book ! n)) >> (emit (encoding_record e) >> give (tt {0}))) k s)
       (encoding_same delta rs root c t k₀ k s h v)
       (let e : FieldEncoding = bodies.field_encoding delta root (bodies.seen_behind c.book behind no_annotations) c in
-      does_then lent book SameNumber Always (bodies.lower_constraint (book ! n).c c)
+      does_then lent book (SameReference lent book) Always (bodies.lower_constraint (reference (book ! n).c) c)
       (unless_none (book ! n).c (lower_where_expr 64 book (book ! n).c))
-      (λ i u. code.next (code.emit (carried 45 (book ! n).a root i (book ! n)) u)
+      (λ i u. code.next (code.emit (carried 45 (book ! n).a root (reference_number i) (book ! n)) u)
       (λ m w. bodies.write (encoding_record e) w))
       (λ i. emit (carried 45 (book ! n).a t.root i (book ! n)) >> (emit (encoding_record e) >> give (tt {0}))) k s
       (does_constraint kind c k s h)
       (λ i c₁ j k₁ s₁ st grown same.
       subst (λ (x : ℕ). Does lent book Always
-      (code.next (code.emit (carried 45 (book ! n).a root i (book ! n)) c₁)
+      (code.next (code.emit (carried 45 (book ! n).a root (reference_number i) (book ! n)) c₁)
       (λ m w. bodies.write (encoding_record e) w))
       (emit (carried 45 (book ! n).a x j (book ! n)) >> (emit (encoding_record e) >> give (tt {0}))) k₁ s₁) v.root_is
       (subst (λ (x : ℕ). Does lent book Always
-      (code.next (code.emit (carried 45 (book ! n).a root i (book ! n)) c₁)
+      (code.next (code.emit (carried 45 (book ! n).a root (reference_number i) (book ! n)) c₁)
       (λ m w. bodies.write (encoding_record e) w))
       (emit (carried 45 (book ! n).a root x (book ! n)) >> (emit (encoding_record e) >> give (tt {0}))) k₁ s₁) same
-      (does_next lent book SameNumber Always (code.emit (carried 45 (book ! n).a root i (book ! n)) c₁)
-      (emit (carried 45 (book ! n).a root i (book ! n)))
+      (does_next lent book SameNumber Always
+      (code.emit (carried 45 (book ! n).a root (reference_number i) (book ! n)) c₁)
+      (emit (carried 45 (book ! n).a root (reference_number i) (book ! n)))
       (λ m w. bodies.write (encoding_record e) w) (emit (encoding_record e) >> give (tt {0})) k₁ s₁
-      (does_emits lent book (carried 45 (book ! n).a root i (book ! n)) c₁ k₁ s₁ st)
+      (does_emits lent book (carried 45 (book ! n).a root (reference_number i) (book ! n)) c₁ k₁ s₁ st)
       (λ m c₂ m' k₂ s₂ st₂ grown₂ e'. does_write lent book (encoding_record e) c₂ k₂ s₂ st₂)))))
 
   pub does_field : (book ! n).kind ≡ 31 → (delta : Bool) (c : code.State) (k : Names) (s : State)
@@ -168,8 +161,8 @@ module _ (lent : Lent) (book : Book) (sound : WellFormed book.records) (n : ℕ)
   does_field kind delta c k s h =
       subst (λ (d : Book). Does lent book Always
       (code.next (walked (d ! n).b (record c { place = n })) (λ root t.
-      code.next (bodies.lower_constraint (d ! n).c t) (λ i u.
-      code.next (code.emit (carried 45 (d ! n).a root i (d ! n)) u) (λ m v.
+      code.next (bodies.lower_constraint (reference (d ! n).c) t) (λ i u.
+      code.next (code.emit (carried 45 (d ! n).a root (reference_number i) (d ! n)) u) (λ m v.
       bodies.write (encoding_record (bodies.field_encoding delta root (bodies.seen_behind t.book behind no_annotations)
       t)) v))))
       (at n >> lower_field book delta n) k s) (sym h.book_is)
@@ -178,7 +171,7 @@ module _ (lent : Lent) (book : Book) (sound : WellFormed book.records) (n : ℕ)
       (resolve_type book (book ! n).b >>= λ t. ending' delta t) k s
       (does_then lent book (Roots k s.results) Always (walked (book ! n).b c') (resolve_type book (book ! n).b)
       (λ root t. ending delta root t) (λ t. ending' delta t) k (moved n s)
-      (does_type lent book (book ! n).b c' k (moved n s) (stands_moved lent book n c k s h))
+      (does_resolve_type lent book (book ! n).b c' k (moved n s) (stands_moved lent book n c k s h))
       (λ root c₁ t k₁ s₁ st grown v. does_ending kind delta s.results root c₁ t k k₁ s₁ st v)))
 
   -- a tombstone
@@ -187,39 +180,33 @@ module _ (lent : Lent) (book : Book) (sound : WellFormed book.records) (n : ℕ)
   unfolding bodies.lower_tombstone lower_tombstone
   does_tombstone c k s h =
       subst (λ (d : Book). Does lent book Always
-      (code.next (bodies.optional_type (d ! n).c (record c { place = n })) (λ i t.
-      bodies.write (carried 47 (bodies.first_string d 0 behind) (bodies.first_string d 1 behind) i (d ! n)) t))
+      (code.next (bodies.optional_type (reference (d ! n).c) (record c { place = n })) (λ i t.
+      bodies.write (bodies.tombstone_record (bodies.first_string d 0 behind) (bodies.first_string d 1 behind) i
+      (d ! n)) t))
       (at n >> lower_tombstone book n) k s) (sym h.book_is)
       (let c' : code.State = record c { place = n } in
       let st' : Stands lent book c' k (moved n s) = stands_moved lent book n c k s h in
-      let reason : bodies.first_string book 0 behind ≡ first_string 0 (notes book n) =
+      let reason : reference_number (bodies.first_string book 0 behind) ≡ first_string 0 (notes book n) =
       strings_behind 0 book behind ∙ ap (first_string 0) noted in
-      let since : bodies.first_string book 1 behind ≡ first_string 1 (notes book n) =
+      let since : reference_number (bodies.first_string book 1 behind) ≡ first_string 1 (notes book n) =
       strings_behind 1 book behind ∙ ap (first_string 1) noted in
       let m : Step ℕ = unless_none (book ! n).c (resolve_type book (book ! n).c >>= λ t. give t.root) in
       let g : ℕ → Step Unit = λ i. emit
       (carried 47 (first_string 0 (notes book n)) (first_string 1 (notes book n)) i (book ! n)) >> give (tt {0}) in
+      let r : Option ℕ → Record = λ i. bodies.tombstone_record (bodies.first_string book 0 behind)
+      (bodies.first_string book 1 behind) i (book ! n) in
       does_at lent book Always n
-      (code.next (bodies.optional_type (book ! n).c c')
-      (λ i t. bodies.write (carried 47 (bodies.first_string book 0 behind) (bodies.first_string book 1 behind) i
-      (book ! n)) t))
-      (m >>= g) k s
-      (does_then lent book SameNumber Always (bodies.optional_type (book ! n).c c') m
-      (λ i t. bodies.write (carried 47 (bodies.first_string book 0 behind) (bodies.first_string book 1 behind) i
-      (book ! n)) t) g k (moved n s)
-      (does_unless_none lent book (book ! n).c (λ t. walked (book ! n).c t)
+      (code.next (bodies.optional_type (reference (book ! n).c) c') (λ i t. bodies.write (r i) t)) (m >>= g) k s
+      (does_then lent book (SameReference lent book) Always (bodies.optional_type (reference (book ! n).c) c') m
+      (λ i t. bodies.write (r i) t) g k (moved n s)
+      (does_optional lent book (book ! n).c (λ i t. walked i t)
       (resolve_type book (book ! n).c >>= λ t. give t.root) c' k (moved n s) st'
       (λ e. does_root lent book (book ! n).c c' k (moved n s) st'))
       (λ i c₁ j k₁ s₁ st grown same.
-      subst (λ (x : ℕ). Does lent book Always
-      (bodies.write (carried 47 (bodies.first_string book 0 behind) (bodies.first_string book 1 behind) i
-      (book ! n)) c₁) (g x) k₁ s₁) same
-      (subst (λ (r : Record). Does lent book Always
-      (bodies.write (carried 47 (bodies.first_string book 0 behind) (bodies.first_string book 1 behind) i
-      (book ! n)) c₁) (emit r >> give (tt {0})) k₁ s₁)
-      (λ z. carried 47 (reason z) (since z) i (book ! n))
-      (does_write lent book (carried 47 (bodies.first_string book 0 behind) (bodies.first_string book 1 behind) i
-      (book ! n)) c₁ k₁ s₁ st)))))
+      subst (λ (x : ℕ). Does lent book Always (bodies.write (r i) c₁) (g x) k₁ s₁) same
+      (subst (λ (x : Record). Does lent book Always (bodies.write (r i) c₁) (emit x >> give (tt {0})) k₁ s₁)
+      (λ z. carried 47 (reason z) (since z) (reference_number i) (book ! n))
+      (does_write lent book (r i) c₁ k₁ s₁ st)))))
 
   -- a variant
   pub does_variant : (c : code.State) (k : Names) (s : State) → Stands lent book c k s

@@ -1,10 +1,12 @@
 -- One step of the code along a constraint: the records left below it do not matter, since children are earlier records.
-use Rattle.std.proofs.Common.{◌≡◌, ℕ, zero, suc, ◌<◌, Bool, true, false, nat_lt, if◌then◌else◌, refl}
+use Rattle.std.proofs.Common.{◌≡◌, ℕ, zero, suc, ◌<◌, Bool, true, false, cond, nat_lt, eqb, if◌then◌else◌, refl}
 use Rattle.std.proofs.Common.{ap, arith}
 use Rattle.std.proofs.lemmas.Bool.Decides.{nat_tests}
 use Rattle.record.specs.Kind.{kind_from}
 use Rattle.book.specs.Outline.{◌!◌}
 use Rattle.types.specs.Code.{State, Outcome, done}
+use Rattle.bodies.specs.declared.constraint.Connective.TheVariants.{And, Or, Not}
+use Rattle.bodies.specs.Annotated.{connective_from}
 use Rattle.bodies.specs.Code.{where_by, earlier, where_within, lower_where_expr}
 
 abbrev Child : Type 0
@@ -44,4 +46,22 @@ where-step n s =
     below : (a n : ℕ) → nat_lt a n ≡ true → a < n
     below a n h = grind (arith, nat_tests)
 
-pub ruleset steps = (where-step)
+-- And and Or have the subs 0 and 1
+module _ (sub : ℕ) where
+  pub and_low : connective_from sub ≡ And → sub < 2
+  and_low e = go (eqb sub 0) (eqb sub 1) refl refl e
+    where
+      go : (a b : Bool) → eqb sub 0 ≡ a → eqb sub 1 ≡ b → cond a And (cond b Or Not) ≡ And → sub < 2
+      go true b p q e = grind (arith, nat_tests)
+      go false true p q e = grind (arith, nat_tests)
+      go false false p q e = cc
+
+  pub or_low : connective_from sub ≡ Or → sub < 2
+  or_low e = go (eqb sub 0) (eqb sub 1) refl refl e
+    where
+      go : (a b : Bool) → eqb sub 0 ≡ a → eqb sub 1 ≡ b → cond a And (cond b Or Not) ≡ Or → sub < 2
+      go true b p q e = grind (arith, nat_tests)
+      go false true p q e = grind (arith, nat_tests)
+      go false false p q e = cc
+
+pub ruleset steps = (where-step, and_low, or_low)

@@ -1,4 +1,5 @@
--- 64 levels are the whole tree of a constraint: what a record gives depends on what its children give, and on no other record.
+-- 64 levels are the whole tree of a constraint: what a record gives depends on what its children give, and on no other
+-- record.
 -- Assumes nothing.
 use Prim.Native.Nat.{ℕ, ◌<◌}
 use mathlib.Core.Bool.{true}
@@ -44,7 +45,8 @@ module _ (f g : ℕ → Step ℕ) where
   same (range sub a b c) (p, q) = λ i. p i >>= λ l. q i >>= λ r. emit (bare 15 sub l r c 0)
   same (operand sub a v) p = refl
 
-  -- they are, if they are the same for all children of the record. The rows: And and Or, Not, comparison, range; five of operands
+  -- they are, if they are the same for all children of the record. The rows: And and Or, Not, comparison, range; five
+  -- of operands
   agree :
       (P : Child → Type 0) →
       ((n : ℕ) → P (record { group = constraint; number = n }) → f n ≡ g n) →

@@ -1,4 +1,4 @@
--- The code lowers constants and bodies as the definitions say; the proof is in proofs/Agreeing.antt.
+-- The code lowers constants and bodies as the definitions say; the proofs are in proofs/Agreeing.antt.
 -- Assumes nothing.
 use Rattle.std.specs.Prelude.{List, map}
 use Rattle.book.specs.Outline.{Book, numbers_of}
@@ -12,6 +12,18 @@ use Rattle.types.specs.Code.{next}
 use Rattle.bodies.specs.Constant.{lower_constants}
 use Rattle.bodies.specs.Bodies.{lower_bodies}
 use Rattle.bodies.specs.Code as code
+
+-- reached constants, in any book
+abbrev pub ConstantsAsDefined : Type 0
+ConstantsAsDefined =
+    (book : Book) (cs : List Settled) →
+    Refines book Always (λ c. code.lower_constants (map told cs) c) (lower_constants book cs)
+
+-- bodies, in a book that is accepted
+abbrev pub BodiesAsDefined : Type 0
+BodiesAsDefined =
+    (book : Book) → WellFormed book.records →
+    Refines book Always (λ c. code.lower_bodies (numbers_of is_outside book) c) (lower_bodies book)
 
 -- constants, and then bodies, in a book that is accepted
 abbrev pub LowersAsDefined : Type 0

@@ -1,6 +1,6 @@
 -- What the code sees of annotations, and its encodings in the terms of the definitions.
 -- Assumes nothing.
-use Rattle.std.specs.Prelude.{ℕ, Bool, true, false, cond, ◌&&◌, ltb, eqb, get_or, is_none, Result, Ok}
+use Rattle.std.specs.Prelude.{ℕ, Bool, true, false, cond, ◌&&◌, eqb, get_or, is_none, Result, Ok}
 use Rattle.std.specs.Prelude as std
 use Rattle.std.proofs.Math.Option.{Option, some, none}
 use Rattle.record.specs.declared.Record.{Record}
@@ -8,6 +8,7 @@ use Rattle.record.specs.declared.kind.Kind.{Kind}
 use Rattle.record.specs.declared.kind.Kind.TheVariants.{Primitive, SubByte}
 use Rattle.record.specs.declared.kind.UnknownKind.{UnknownKind}
 use Rattle.record.specs.Kind.{kind_from}
+use Rattle.record.specs.Reference.{reference}
 use Rattle.bodies.specs.declared.encoding.Encoding as codes
 use Rattle.bodies.specs.declared.encoding.Encoding.TheVariants.{Default, Varint, Zigzag}
 use Rattle.bodies.specs.declared.encoding.Inner as inners
@@ -16,6 +17,15 @@ use Rattle.bodies.specs.declared.encoding.FieldEncoding as fields
 use Rattle.bodies.specs.declared.encoding.Annotation.{Annotation}
 use Rattle.bodies.specs.declared.encoding.Annotation.TheVariants as annotations
 use Rattle.bodies.specs.declared.encoding.Annotations.{Annotations}
+use Rattle.bodies.specs.declared.encoding.Argument.{Argument}
+use Rattle.bodies.specs.declared.encoding.Argument.TheVariants.{Int, Hex}
+use Rattle.bodies.specs.declared.encoding.Argument.TheVariants as arguments
+use Rattle.bodies.specs.declared.constraint.Connective.{Connective}
+use Rattle.bodies.specs.declared.constraint.Connective.TheVariants.{And, Or, Not}
+use Rattle.bodies.specs.declared.constraint.WhereOperand.{WhereOperand}
+use Rattle.bodies.specs.declared.constraint.WhereOperand.TheVariants as operands
+use Rattle.bodies.specs.declared.item.Key.{Key}
+use Rattle.bodies.specs.declared.item.Key.TheVariants.{Reason, Since}
 use Rattle.bodies.specs.Encoding.{Encoding, default, varint, zigzag, FieldEncoding}
 use Rattle.bodies.specs.Encoding.{Inner, not_eligible, had_before, over, delta_rows, under_inner}
 
@@ -40,6 +50,28 @@ abbrev pub field_encoding_of : fields.FieldEncoding → FieldEncoding
 field_encoding_of e =
     record { encoding = encoding_of e.encoding; delta = e.delta; limit = limit_of e.limit }
 
+-- what a logical constraint says of its sides, by its sub
+abbrev pub connective_from : ℕ → Connective
+connective_from sub = cond (eqb sub 0) And (cond (eqb sub 1) Or Not)
+
+-- what an operand is, by its sub
+abbrev pub operand_from : ℕ → WhereOperand
+operand_from sub = cond (eqb sub 4) operands.Value operands.Other
+
+-- the sub of an argument under a key of a tombstone
+abbrev pub key_code : Key → ℕ
+key_code Reason = 0
+key_code Since = 1
+
+-- what the value of an argument is, by its sub
+abbrev pub argument_from : ℕ → Argument
+argument_from sub = cond (eqb sub 0) Int (cond (eqb sub 1) Hex arguments.Other)
+
+abbrev pub is_number : Argument → Bool
+is_number Int = true
+is_number Hex = true
+is_number arguments.Other = false
+
 -- what an annotation says, by its sub
 abbrev pub annotation_from : ℕ → Annotation
 annotation_from sub =
@@ -63,7 +95,9 @@ with_annotation s annotations.Other = record s { limiting = false }
 -- one argument more
 abbrev pub with_argument : Annotations → Record → Annotations
 with_argument s r =
-    cond (s.limiting && is_none s.limit && ltb r.sub 2 && eqb r.a 65535) (record s { limit = std.Some r.v }) s
+    cond (s.limiting && is_none s.limit && is_number (argument_from r.sub) && is_none (reference r.a))
+    (record s { limit = std.Some r.v })
+    s
 
 -- the encoding that annotations say
 abbrev pub encoded : Annotations → fields.FieldEncoding

@@ -1,5 +1,5 @@
--- Messages, unions and newtypes: `lower_message`, `lower_union`, `lower_newtype`, `lower_field` and `lower_tombstone` of the original. Words in
--- quotation marks are document 01's.
+-- Messages, unions and newtypes: `lower_message`, `lower_union`, `lower_newtype`, `lower_field` and `lower_tombstone`
+-- of the original. Words in quotation marks are rules of docs/FORMAT.md in brief.
 -- Assumes nothing.
 use Rattle.std.specs.Prelude.{ℕ, Bool, true, false, not, cond, ◌&&◌, List, eqb}
 use Rattle.std.proofs.Math.Option.{Option, some, none}

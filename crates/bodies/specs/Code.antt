@@ -1,15 +1,16 @@
 -- What the code does with constants, messages, unions and newtypes, over its tables and what it has written.
 -- Assumes nothing.
-use Rattle.std.specs.Prelude.{ℕ, zero, suc, Bool, false, not, ◌&&◌, ◌==◌, nat_lt, if◌then◌else◌, List, []}
-use Rattle.std.specs.Prelude.{◌∷◌, Option, Some, None, Result, Ok, ℤ}
+use Rattle.std.specs.Prelude.{ℕ, zero, suc, Bool, false, ◌==◌, nat_lt, if◌then◌else◌, List, []}
+use Rattle.std.specs.Prelude.{◌∷◌, Option, Some, None, Result, Ok, Err, ℤ}
 use Rattle.record.specs.declared.Record.{Record}
 use Rattle.record.specs.declared.kind.Kind.{Kind}
 use Rattle.record.specs.declared.kind.Kind.TheVariants.{Logic, Comparison, Range, Operand, Message, Union, Newtype}
-use Rattle.record.specs.declared.kind.Kind.TheVariants.{Alias, Constant, Ambiguous, TypeParameter, Field, Tombstone}
+use Rattle.record.specs.declared.kind.Kind.TheVariants.{TypeParameter, Field, Tombstone}
 use Rattle.record.specs.declared.kind.Kind.TheVariants.{Variant, Annotation, Argument, TombstoneArgument}
 use Rattle.record.specs.declared.kind.UnknownKind.{UnknownKind}
-use Rattle.record.specs.Kind.{kind_from}
+use Rattle.record.specs.Kind.{kind_from, is_declaration_kind}
 use Rattle.record.specs.Made.{bare_record}
+use Rattle.record.specs.Reference.{reference, reference_number}
 use Rattle.record.specs.Written.{read_at}
 use Rattle.book.specs.Outline.{Book, ◌!◌}
 use Rattle.arith.specs.Checked.{answer}
@@ -17,11 +18,15 @@ use Rattle.constants.specs.declared.reached.Settled.{Settled}
 use Rattle.types.specs.Code.{State, Outcome, done, next, emit, tell, message}
 use Rattle.types.specs.Walk.{walked}
 use Rattle.bodies.specs.declared.encoding.Annotations.{Annotations}
+use Rattle.bodies.specs.declared.constraint.Connective.{Connective}
+use Rattle.bodies.specs.declared.constraint.Connective.TheVariants.{And, Or, Not}
+use Rattle.bodies.specs.declared.constraint.WhereOperand.{WhereOperand}
+use Rattle.bodies.specs.declared.constraint.WhereOperand.TheVariants as operands
 use Rattle.bodies.specs.Encoding.{FieldEncoding, encoding_record}
 use Rattle.bodies.specs.Bodies.{carried}
 use Rattle.bodies.specs.Constant.{constant_record}
 use Rattle.bodies.specs.Annotated.{field_encoding_of, annotation_from, with_annotation, with_argument, no_annotations}
-use Rattle.bodies.specs.Annotated.{encoded, under_root}
+use Rattle.bodies.specs.Annotated.{encoded, under_root, connective_from, operand_from}
 
 -- the declaration or item at record n is being lowered
 abbrev pub moved : ℕ → State → State
@@ -31,27 +36,32 @@ moved n s = record s { place = n }
 unfoldable pub write : Record → State → Outcome Unit
 write r s = next (emit r s) (λ n t. done tt t)
 
--- what a field refers to, or none
-abbrev pub unless_none : ℕ → (State → Outcome ℕ) → State → Outcome ℕ
-unless_none n f s = if n == 65535 then done 65535 s else f s
+-- what is done with what is there, if it is
+abbrev pub optional : (ℕ → State → Outcome ℕ) → Option ℕ → State → Outcome (Option ℕ)
+optional f None s = done None s
+optional f (Some n) s = next (f n s) (λ root t. done (Some root) t)
 
 -- the result record of an operand
+abbrev pub operand_as : WhereOperand → ℕ → ℕ → ℕ → Record
+operand_as operands.Value sub a v = bare_record Operand 0 0 0 0
+operand_as operands.Other sub a v = bare_record Operand sub a 0 v
+
 abbrev pub operand : Record → Record
-operand r = if r.sub == 4 then bare_record Operand 0 0 0 0 else bare_record Operand r.sub r.a 0 r.v
+operand r = operand_as (operand_from r.sub) r.sub r.a r.v
 
 -- what is done with a child of record n, which is an earlier record
 abbrev pub earlier : (ℕ → State → Outcome ℕ) → ℕ → ℕ → State → Outcome ℕ
 earlier child n a s = if nat_lt a n then child a s else done 0 s
 
 -- the second side of a logical constraint, which a negation has not
-abbrev pub logic : (ℕ → State → Outcome ℕ) → Record → ℕ → State → Outcome ℕ
-logic child r a s =
-    if nat_lt r.sub 2 then next (child r.b s) (λ b t. emit (bare_record Logic r.sub a b 0) t)
-    else emit (bare_record Logic r.sub a 0 0) s
+abbrev pub logic : (ℕ → State → Outcome ℕ) → ℕ → ℕ → ℕ → Connective → State → Outcome ℕ
+logic child sub b a And s = next (child b s) (λ b t. emit (bare_record Logic sub a b 0) t)
+logic child sub b a Or s = next (child b s) (λ b t. emit (bare_record Logic sub a b 0) t)
+logic child sub b a Not s = emit (bare_record Logic sub a 0 0) s
 
 -- a constraint or an operand, given what is done with its children
 abbrev pub where_by : (ℕ → State → Outcome ℕ) → Record → Result Kind UnknownKind → State → Outcome ℕ
-where_by child r (Ok Logic) s = next (child r.a s) (λ a t. logic child r a t)
+where_by child r (Ok Logic) s = next (child r.a s) (λ a t. logic child r.sub r.b a (connective_from r.sub) t)
 where_by child r (Ok Comparison) s =
     next (child r.a s) (λ a t. emit (record (bare_record Comparison r.sub a 0 0) { c = r.c }) t)
 where_by child r (Ok Range) s =
@@ -69,12 +79,12 @@ unfoldable pub lower_where_expr : ℕ → State → Outcome ℕ
 lower_where_expr n s = where_within (suc n) n s
 
 -- the same where there may be none
-abbrev pub lower_constraint : ℕ → State → Outcome ℕ
-lower_constraint n s = unless_none n (λ t. lower_where_expr n t) s
+abbrev pub lower_constraint : Option ℕ → State → Outcome (Option ℕ)
+lower_constraint constraint s = optional (λ n t. lower_where_expr n t) constraint s
 
 -- a type that may be missing
-abbrev pub optional_type : ℕ → State → Outcome ℕ
-optional_type n s = unless_none n (λ t. walked n t) s
+abbrev pub optional_type : Option ℕ → State → Outcome (Option ℕ)
+optional_type type_expr s = optional (λ n t. walked n t) type_expr s
 
 -- what the records behind a field or a message, by their numbers, say of encodings
 abbrev pub seen_by : Result Kind UnknownKind → Record → Annotations → (Annotations → Annotations) → Annotations
@@ -95,26 +105,35 @@ field_encoding delta root seen s = under_root delta (read_at s.results root) (fi
 unfoldable pub lower_field : Bool → ℕ → List ℕ → State → Outcome Unit
 lower_field delta n behind s =
     next (walked (s.book ! n).b (moved n s)) (λ root t.
-    next (lower_constraint (s.book ! n).c t) (λ c u.
-    next (emit (carried 45 (s.book ! n).a root c (s.book ! n)) u) (λ m v.
+    next (lower_constraint (reference (s.book ! n).c) t) (λ c u.
+    next (emit (carried 45 (s.book ! n).a root (reference_number c) (s.book ! n)) u) (λ m v.
     write (encoding_record (field_encoding delta root (seen_behind t.book behind no_annotations) t)) v)))
 
 -- the first string under a key behind a tombstone
-abbrev pub string_by : Result Kind UnknownKind → ℕ → Record → ℕ → ℕ
-string_by (Ok TombstoneArgument) key r rest = if r.sub == key && not (r.a == 65535) then r.a else rest
+abbrev pub or_later : Option ℕ → Option ℕ → Option ℕ
+or_later (Some n) later = Some n
+or_later None later = later
+
+abbrev pub string_by : Result Kind UnknownKind → ℕ → Record → Option ℕ → Option ℕ
+string_by (Ok TombstoneArgument) key r rest = if r.sub == key then or_later (reference r.a) rest else rest
 string_by (Ok Annotation) key r rest = rest
 string_by (Ok Argument) key r rest = rest
 string_by (Ok TypeParameter) key r rest = rest
-string_by kind key r rest = 65535
+string_by kind key r rest = None
 
-unfoldable pub first_string : Book → ℕ → List ℕ → ℕ
-first_string book key [] = 65535
+unfoldable pub first_string : Book → ℕ → List ℕ → Option ℕ
+first_string book key [] = None
 first_string book key (m ∷ ms) = string_by (kind_from (book ! m).kind) key (book ! m) (first_string book key ms)
+
+-- the result record of a tombstone
+abbrev pub tombstone_record : Option ℕ → Option ℕ → Option ℕ → Record → Record
+tombstone_record reason since c r =
+    carried 47 (reference_number reason) (reference_number since) (reference_number c) r
 
 unfoldable pub lower_tombstone : ℕ → List ℕ → State → Outcome Unit
 lower_tombstone n behind s =
-    next (optional_type (s.book ! n).c (moved n s)) (λ c t.
-    write (carried 47 (first_string s.book 0 behind) (first_string s.book 1 behind) c (s.book ! n)) t)
+    next (optional_type (reference (s.book ! n).c) (moved n s)) (λ c t.
+    write (tombstone_record (first_string s.book 0 behind) (first_string s.book 1 behind) c (s.book ! n)) t)
 
 unfoldable pub lower_variant : ℕ → State → Outcome Unit
 lower_variant n s = write (carried 44 (s.book ! n).a 0 0 (s.book ! n)) (moved n s)
@@ -124,13 +143,8 @@ abbrev pub item_by : Result Kind UnknownKind → Bool → ℕ → List ℕ → S
 item_by (Ok Field) delta n behind s f = next (lower_field delta n behind s) (λ x t. f t)
 item_by (Ok Tombstone) delta n behind s f = next (lower_tombstone n behind s) (λ x t. f t)
 item_by (Ok Variant) delta n behind s f = next (lower_variant n s) (λ x t. f t)
-item_by (Ok Message) delta n behind s f = done tt s
-item_by (Ok Union) delta n behind s f = done tt s
-item_by (Ok Newtype) delta n behind s f = done tt s
-item_by (Ok Alias) delta n behind s f = done tt s
-item_by (Ok Constant) delta n behind s f = done tt s
-item_by (Ok Ambiguous) delta n behind s f = done tt s
-item_by kind delta n behind s f = f s
+item_by (Ok kind) delta n behind s f = if is_declaration_kind kind then done tt s else f s
+item_by (Err e) delta n behind s f = f s
 
 -- the items behind a message or a union, up to the next declaration
 unfoldable pub lower_items : Bool → List ℕ → State → Outcome Unit
@@ -138,10 +152,13 @@ lower_items delta [] s = done tt s
 lower_items delta (m ∷ ms) s =
     item_by (kind_from (s.book ! m).kind) delta m ms s (λ t. lower_items delta ms t)
 
--- a message or a union: its own record, of this kind, and its items
+-- the own record of a message or a union, of this kind
+abbrev pub begin_body : ℕ → ℕ → State → Outcome ℕ
+begin_body kind n s = emit (carried kind (s.book ! n).a 0 0 (s.book ! n)) (moved n s)
+
+-- a message or a union: its own record, and its items
 unfoldable pub lower_body : ℕ → ℕ → List ℕ → Bool → State → Outcome Unit
-lower_body kind n behind delta s =
-    next (emit (carried kind (s.book ! n).a 0 0 (s.book ! n)) (moved n s)) (λ m t. lower_items delta behind t)
+lower_body kind n behind delta s = next (begin_body kind n s) (λ m t. lower_items delta behind t)
 
 abbrev pub lower_message : ℕ → List ℕ → State → Outcome Unit
 lower_message n behind s = lower_body 42 n behind (seen_behind s.book behind no_annotations).delta s

@@ -1,4 +1,4 @@
--- The records of reached constants. Words in quotation marks are document 01's.
+-- The records of reached constants. Words in quotation marks are rules of docs/FORMAT.md in brief.
 -- Assumes nothing.
 use Rattle.std.specs.Prelude.{ℕ, suc, List, [], ◌∷◌, map, ℤ}
 use Rattle.std.proofs.Math.Option.{Option, some, none}
@@ -11,7 +11,8 @@ use Rattle.constants.specs.Order.{Settled}
 use Rattle.types.specs.Step.{Step, ◌>>=◌, ◌>>◌, give, at, emit, tell, message}
 use Rattle.types.specs.Resolve.{resolve_type}
 
--- "reached without a value gives message 5", which "takes the expression's span"; "v [..] 2 `ConstRefNotFound` (message 5)"
+-- "reached without a value gives message 5", which "takes the expression's span"; "v [..] 2 `ConstRefNotFound` (message
+-- 5)"
 unfoldable pub tell_unless : Option ℤ → Record → Step Unit
 tell_unless (some z) r = give tt
 tell_unless none r = tell r

@@ -1,4 +1,5 @@
--- Constraints: `lower_where_expr` and `lower_where_operand` of the original. Words in quotation marks are document 01's.
+-- Constraints: `lower_where_expr` and `lower_where_operand` of the original. Words in quotation marks are rules of
+-- docs/FORMAT.md in brief.
 -- Assumes nothing.
 use Rattle.std.specs.Prelude.{ℕ, zero, suc, cond, ◌&&◌, eqb}
 use Rattle.record.specs.declared.Record.{Record}

@@ -1,4 +1,5 @@
--- Encodings of fields: `compute_field_encoding` and a message's delta. Words in quotation marks are document 01's.
+-- Encodings of fields: `compute_field_encoding` and a message's delta. Words in quotation marks are rules of
+-- docs/FORMAT.md in brief.
 -- Assumes nothing.
 use Rattle.std.specs.Prelude.{ℕ, Bool, true, false, not, cond, ◌&&◌, List, [], ◌∷◌, ltb, eqb, get_or}
 use Rattle.std.proofs.Math.Option.{Option, some, none}
@@ -26,7 +27,8 @@ has_annotation sub notes = any (λ r. is_kind 34 r && eqb r.sub sub) notes
 abbrev pub is_keyless_number : Record → Bool
 is_keyless_number r = is_kind 35 r && ltb r.sub 2 && eqb r.a 65535
 
--- "Limit is the first keyless Int or Hex in the first limit annotation having one"; `in_limit`: the latest annotation is a limit
+-- "Limit is the first keyless Int or Hex in the first limit annotation having one"; `in_limit`: the latest annotation
+-- is a limit
 unfoldable pub limit_in : Bool → List Record → Option ℕ
 limit_in in_limit [] = none
 limit_in in_limit (r ∷ rs) =
@@ -88,7 +90,8 @@ with_delta (over base) e = record { encoding = base; delta = true; limit = e.lim
 unfoldable pub under_inner : Bool → Inner → FieldEncoding → FieldEncoding
 under_inner message_delta i e = cond (message_delta && not e.delta) (with_delta i e) e
 
--- "Under a message's delta, fields not yet delta and [eligible] become delta over: varint for 1-4, zigzag for 5-8, else what they had"
+-- "Under a message's delta, fields not yet delta and [eligible] become delta over: varint for 1-4, zigzag for 5-8, else
+-- what they had"
 unfoldable pub under_delta : Bool → ResolvedType → FieldEncoding → FieldEncoding
 under_delta message_delta t e = under_inner message_delta (delta_inner t) e
 

@@ -1,29 +1,61 @@
 //! Constraints of fields, by recursion on the record numbers of their children, which are always smaller.
 
-ghost use Rattle.std.specs.Prelude.{◌≡◌, ◌≤◌};
-ghost use Rattle.types.specs.Code.{state_of};
-ghost use Rattle.bodies.specs.Code.{operand, lower_where_expr, lower_constraint};
+ghost use Rattle.std.specs.Prelude.{◌≡◌};
+ghost use Rattle.types.specs.Code.{Steps};
+ghost use Rattle.bodies.specs.Annotated.{connective_from, operand_from};
+ghost use Rattle.bodies.specs.Code as code;
 
-use crate::NONE;
 use record::Record;
 use record::kind::Kind;
 use record::refusal::Refusal;
 use types::lowering::Lowering;
 
-// The sub of an operand that is the value itself.
-const VALUE: u8 = 4;
+/// What a logical constraint says of its sides, by its sub. And and Or have two, and Not has one. An accepted record
+/// has one of the subs 0 to 2.
+#[derive(Clone, Copy)]
+enum Connective {
+    And,
+    Or,
+    Not,
+}
 
-// And and Or have the subs below, and two sides; a negation has one.
-const NOT: u8 = 2;
+impl From<u8> for Connective {
+    ghost from_gives = { λ sub connective. connective ≡ connective_from sub };
+
+    fn from(sub: u8) -> Self {
+        match sub {
+            0 => Connective::And,
+            1 => Connective::Or,
+            _ => Connective::Not,
+        }
+    }
+}
+
+/// What an operand is: the value that is constrained, or something that its record has.
+#[derive(Clone, Copy)]
+enum WhereOperand {
+    Value,
+    Other,
+}
+
+impl From<u8> for WhereOperand {
+    ghost from_gives = { λ sub operand. operand ≡ operand_from sub };
+
+    fn from(sub: u8) -> Self {
+        match sub {
+            4 => WhereOperand::Value,
+            _ => WhereOperand::Other,
+        }
+    }
+}
 
 // The result record of an operand. The value itself becomes the integer 0.
 fn lower_where_operand(r: &Record) -> Record
-    ensures { result ≡ operand r.now }
+    ensures { result ≡ code.operand r.now }
 {
-    if r.sub == VALUE {
-        Record::bare(Kind::Operand, 0, 0, 0, 0)
-    } else {
-        Record::bare(Kind::Operand, r.sub, r.a, 0, r.v)
+    match WhereOperand::from(r.sub) {
+        WhereOperand::Value => Record::bare(Kind::Operand, 0, 0, 0, 0),
+        WhereOperand::Other => Record::bare(Kind::Operand, r.sub, r.a, 0, r.v),
     }
 }
 
@@ -33,22 +65,19 @@ pub(crate) fn lower_where_expr<const N: usize>(
     lowering: &mut Lowering<'_, '_, '_, '_, N>,
     n: u16,
 ) -> Result<u16, Refusal>
-    requires { N ≤ 4096 }
-    ensures answer { result ≡ (lower_where_expr n (state_of N lowering.old)).answer }
-    ensures state { state_of N lowering.new ≡ (lower_where_expr n (state_of N lowering.old)).state }
-    ensures names { lowering.new.names.ghost_name ≡ lowering.old.names.ghost_name }
-    ensures results { lowering.new.results.ghost_name ≡ lowering.old.results.ghost_name }
-    ensures diagnostics { lowering.new.diagnostics.ghost_name ≡ lowering.old.diagnostics.ghost_name }
+    ensures { Steps N lowering.old lowering.new result (code.lower_where_expr n) }
 {
     let r = lowering.book.record(n);
     match r.kind() {
         Ok(Kind::Logic) => {
             let a = lower_where_expr(lowering, r.a)?;
-            if r.sub < NOT {
-                let b = lower_where_expr(lowering, r.b)?;
-                return lowering.emit(&Record::bare(Kind::Logic, r.sub, a, b, 0));
+            match Connective::from(r.sub) {
+                Connective::And | Connective::Or => {
+                    let b = lower_where_expr(lowering, r.b)?;
+                    lowering.emit(&Record::bare(Kind::Logic, r.sub, a, b, 0))
+                }
+                Connective::Not => lowering.emit(&Record::bare(Kind::Logic, r.sub, a, 0, 0)),
             }
-            lowering.emit(&Record::bare(Kind::Logic, r.sub, a, 0, 0))
         }
         Ok(Kind::Comparison) => {
             let a = lower_where_expr(lowering, r.a)?;
@@ -63,20 +92,15 @@ pub(crate) fn lower_where_expr<const N: usize>(
     }
 }
 
-/// The same where there may be none.
+/// Writes the constraint of a field, which may have none; the number of its root.
 pub(crate) fn lower_constraint<const N: usize>(
     lowering: &mut Lowering<'_, '_, '_, '_, N>,
-    n: u16,
-) -> Result<u16, Refusal>
-    requires { N ≤ 4096 }
-    ensures answer { result ≡ (lower_constraint n (state_of N lowering.old)).answer }
-    ensures state { state_of N lowering.new ≡ (lower_constraint n (state_of N lowering.old)).state }
-    ensures names { lowering.new.names.ghost_name ≡ lowering.old.names.ghost_name }
-    ensures results { lowering.new.results.ghost_name ≡ lowering.old.results.ghost_name }
-    ensures diagnostics { lowering.new.diagnostics.ghost_name ≡ lowering.old.diagnostics.ghost_name }
+    constraint: Option<u16>,
+) -> Result<Option<u16>, Refusal>
+    ensures { Steps N lowering.old lowering.new result (code.lower_constraint constraint) }
 {
-    if n == NONE {
-        return Ok(NONE);
+    match constraint {
+        Some(n) => Ok(Some(lower_where_expr(lowering, n)?)),
+        None => Ok(None),
     }
-    lower_where_expr(lowering, n)
 }

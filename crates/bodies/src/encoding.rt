@@ -2,14 +2,14 @@
 
 ghost use Rattle.std.specs.Prelude.{◌≡◌, get_or};
 ghost use Rattle.bodies.specs.Encoding.{delta_rows, not_eligible, encoding_number, encoding_record};
-ghost use Rattle.bodies.specs.Code.{seen_behind};
+ghost use Rattle.bodies.specs.Code as code;
 ghost use Rattle.bodies.specs.Annotated.{no_annotations, encoding_of, inner_of, inner_at, under_root};
+ghost use Rattle.bodies.specs.Annotated.{argument_from, is_number};
 ghost use Rattle.bodies.specs.Annotated.{field_encoding_of, annotation_from, with_annotation, with_argument, encoded};
 
-use crate::NONE;
 use book::Book;
-use record::Record;
 use record::kind::Kind;
+use record::{Record, reference};
 
 /// How a field is encoded, delta apart.
 #[derive(Clone, Copy, Debug, PartialEq, Eq, Hash)]
@@ -69,6 +69,34 @@ impl From<u8> for Annotation {
     }
 }
 
+/// What the value of an argument is.
+#[derive(Clone, Copy)]
+pub(crate) enum Argument {
+    Int,
+    Hex,
+    Other,
+}
+
+impl From<u8> for Argument {
+    ghost from_gives = { λ sub argument. argument ≡ argument_from sub };
+
+    fn from(sub: u8) -> Self {
+        match sub {
+            0 => Argument::Int,
+            1 => Argument::Hex,
+            _ => Argument::Other,
+        }
+    }
+}
+
+impl Argument {
+    fn is_number(self) -> bool
+        ensures { result ≡ is_number self }
+    {
+        matches!(self, Argument::Int | Argument::Hex)
+    }
+}
+
 /// What was seen of the annotations of a field or a message: which there are, whether the latest is a limit, and the
 /// limit, if it was found.
 #[derive(Clone, Copy)]
@@ -104,12 +132,10 @@ const DELTA: [Inner; 14] = [
 fn primitive_inner(code: u8) -> Inner
     ensures { inner_of result ≡ get_or delta_rows code not_eligible }
 {
-    let row = code as usize;
-    if row < DELTA.len() {
-        DELTA[row]
-    } else {
-        Inner::NotEligible
-    }
+    DELTA
+        .get(usize::from(code))
+        .copied()
+        .unwrap_or(Inner::NotEligible)
 }
 
 /// What a message's delta does with a field whose type has this root.
@@ -153,7 +179,9 @@ impl Annotations {
     pub(crate) fn add_argument(&mut self, argument: &Record)
         ensures { self.new ≡ with_argument self.old argument.now }
     {
-        if self.limiting && self.limit.is_none() && argument.sub < 2 && argument.a == NONE {
+        let number = Argument::from(argument.sub).is_number();
+        let key = reference(argument.a);
+        if self.limiting && self.limit.is_none() && number && key.is_none() {
             self.limit = Some(argument.v);
         }
     }
@@ -205,7 +233,7 @@ impl FieldEncoding {
         ensures { result ≡ encoding_record (field_encoding_of self) }
     {
         let number = self.encoding.number();
-        let delta = self.delta as u16;
+        let delta = u16::from(self.delta);
         match self.limit {
             Some(limit) => Record::bare(Kind::Encoding, number, delta, 1, limit),
             None => Record::bare(Kind::Encoding, number, delta, 0, 0),
@@ -213,10 +241,10 @@ impl FieldEncoding {
     }
 }
 
-/// What the records behind a field or a message say of encodings, which stand outside of trees and have these numbers.
+/// What the annotations of a field or a message say of encodings: those behind it, whose record numbers are given.
 #[tactic(auto, using(crate::proofs::Behind::behind))]
 pub(crate) fn annotations_of(book: &Book<'_>, behind: &[u16]) -> Annotations
-    ensures { result ≡ seen_behind book.now behind.now no_annotations }
+    ensures { result ≡ code.seen_behind book.now behind.now no_annotations }
 {
     let mut seen = Annotations::NONE;
     for m in behind {

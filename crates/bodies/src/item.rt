@@ -1,26 +1,35 @@
 //! Fields, tombstones and variants.
 
-ghost use Rattle.std.specs.Prelude.{◌≡◌, ◌≤◌};
+ghost use Rattle.std.specs.Prelude.{◌≡◌};
 ghost use Rattle.record.specs.Kind.{code_of};
-ghost use Rattle.types.specs.Code.{state_of};
+ghost use Rattle.types.specs.Code.{Steps, state_of};
 ghost use Rattle.bodies.specs.Bodies.{carried};
-ghost use Rattle.bodies.specs.Annotated.{field_encoding_of, no_annotations};
-ghost use Rattle.bodies.specs.Code.{write, optional_type, seen_behind, field_encoding, first_string, lower_field};
-ghost use Rattle.bodies.specs.Code.{lower_tombstone, lower_variant};
+ghost use Rattle.bodies.specs.Annotated.{field_encoding_of, no_annotations, key_code};
+ghost use Rattle.bodies.specs.Code as code;
 
-use crate::NONE;
 use crate::constraint::lower_constraint;
 use crate::encoding::{FieldEncoding, annotations_of};
 use book::Book;
-use record::Record;
 use record::kind::Kind;
 use record::refusal::Refusal;
+use record::{Record, reference, reference_number};
 use types::lowering::Lowering;
 
 /// The keys of a tombstone's arguments.
-const REASON: u8 = 0;
+#[derive(Clone, Copy)]
+enum Key {
+    Reason = 0,
+    Since = 1,
+}
 
-const SINCE: u8 = 1;
+impl Key {
+    // The sub of an argument under the key.
+    fn code(self) -> u8
+        ensures { result ≡ key_code self }
+    {
+        self as u8
+    }
+}
 
 /// A record of the book under another kind and with other references. It keeps the book's span.
 pub(crate) fn carried(kind: Kind, a: u16, b: u16, c: u16, r: &Record) -> Record
@@ -41,12 +50,7 @@ pub(crate) fn write<const N: usize>(
     lowering: &mut Lowering<'_, '_, '_, '_, N>,
     r: &Record,
 ) -> Result<(), Refusal>
-    requires { N ≤ 4096 }
-    ensures answer { result ≡ (write r.now (state_of N lowering.old)).answer }
-    ensures state { state_of N lowering.new ≡ (write r.now (state_of N lowering.old)).state }
-    ensures names { lowering.new.names.ghost_name ≡ lowering.old.names.ghost_name }
-    ensures results { lowering.new.results.ghost_name ≡ lowering.old.results.ghost_name }
-    ensures diagnostics { lowering.new.diagnostics.ghost_name ≡ lowering.old.diagnostics.ghost_name }
+    ensures { Steps N lowering.old lowering.new result (code.write r.now) }
 {
     lowering.emit(r)?;
     Ok(())
@@ -61,7 +65,7 @@ fn encoding_of<const N: usize>(
     root: u16,
 ) -> FieldEncoding
     ensures { field_encoding_of result
-        ≡ field_encoding delta root (seen_behind lowering.now.book.now behind.now no_annotations)
+        ≡ code.field_encoding delta root (code.seen_behind lowering.now.book.now behind.now no_annotations)
         (state_of N lowering.now) }
 {
     let seen = annotations_of(lowering.book, behind);
@@ -76,58 +80,57 @@ pub(crate) fn lower_field<const N: usize>(
     behind: &[u16],
     delta: bool,
 ) -> Result<(), Refusal>
-    requires { N ≤ 4096 }
-    ensures answer { result ≡ (lower_field delta n behind.now (state_of N lowering.old)).answer }
-    ensures state { state_of N lowering.new ≡ (lower_field delta n behind.now (state_of N lowering.old)).state }
-    ensures names { lowering.new.names.ghost_name ≡ lowering.old.names.ghost_name }
-    ensures results { lowering.new.results.ghost_name ≡ lowering.old.results.ghost_name }
-    ensures diagnostics { lowering.new.diagnostics.ghost_name ≡ lowering.old.diagnostics.ghost_name }
+    ensures { Steps N lowering.old lowering.new result (code.lower_field delta n behind.now) }
 {
     lowering.place = n;
     let r = lowering.book.record(n);
     let root = lowering.resolve_type(r.b)?;
     let encoding = encoding_of(lowering, behind, delta, root);
-    let c = lower_constraint(lowering, r.c)?;
-    lowering.emit(&carried(Kind::LoweredField, r.a, root, c, &r))?;
+    let constraint = lower_constraint(lowering, reference(r.c))?;
+    lowering.emit(&carried(
+        Kind::LoweredField,
+        r.a,
+        root,
+        reference_number(constraint),
+        &r,
+    ))?;
     write(lowering, &encoding.record())
 }
 
 // The first string under a key among the arguments of a tombstone, which stand behind it.
 #[tactic(auto, using(crate::proofs::Behind::behind))]
-fn first_string(book: &Book<'_>, behind: &[u16], key: u8) -> u16
-    ensures { result ≡ first_string book.now key behind.now }
+fn first_string(book: &Book<'_>, behind: &[u16], key: Key) -> Option<u16>
+    ensures { result ≡ code.first_string book.now (key_code key) behind.now }
 {
     for m in behind {
         match book.kind(*m) {
             Ok(Kind::TombstoneArgument) => {
                 let r = book.record(*m);
-                if r.sub == key && r.a != NONE {
-                    return r.a;
+                if r.sub == key.code() {
+                    if let Some(string) = reference(r.a) {
+                        return Some(string);
+                    }
                 }
             }
             Ok(Kind::TypeParameter | Kind::Annotation | Kind::Argument) => {}
-            _ => return NONE,
+            _ => return None,
         }
     }
-    NONE
+    None
 }
 
-// The type of a tombstone, which may have none.
+// The type of a tombstone, which may have none. `lower_constraint` does the same with another step: one function for
+// both, or `map` and `transpose`, would take the step as a closure over the lowering, with a contract of its own.
 fn optional_type<const N: usize>(
     lowering: &mut Lowering<'_, '_, '_, '_, N>,
-    n: u16,
-) -> Result<u16, Refusal>
-    requires { N ≤ 4096 }
-    ensures answer { result ≡ (optional_type n (state_of N lowering.old)).answer }
-    ensures state { state_of N lowering.new ≡ (optional_type n (state_of N lowering.old)).state }
-    ensures names { lowering.new.names.ghost_name ≡ lowering.old.names.ghost_name }
-    ensures results { lowering.new.results.ghost_name ≡ lowering.old.results.ghost_name }
-    ensures diagnostics { lowering.new.diagnostics.ghost_name ≡ lowering.old.diagnostics.ghost_name }
+    type_expr: Option<u16>,
+) -> Result<Option<u16>, Refusal>
+    ensures { Steps N lowering.old lowering.new result (code.optional_type type_expr) }
 {
-    if n == NONE {
-        return Ok(NONE);
+    match type_expr {
+        Some(n) => Ok(Some(lowering.resolve_type(n)?)),
+        None => Ok(None),
     }
-    lowering.resolve_type(n)
 }
 
 /// Lowers the tombstone at record `n`.
@@ -137,21 +140,22 @@ pub(crate) fn lower_tombstone<const N: usize>(
     n: u16,
     behind: &[u16],
 ) -> Result<(), Refusal>
-    requires { N ≤ 4096 }
-    ensures answer { result ≡ (lower_tombstone n behind.now (state_of N lowering.old)).answer }
-    ensures state { state_of N lowering.new ≡ (lower_tombstone n behind.now (state_of N lowering.old)).state }
-    ensures names { lowering.new.names.ghost_name ≡ lowering.old.names.ghost_name }
-    ensures results { lowering.new.results.ghost_name ≡ lowering.old.results.ghost_name }
-    ensures diagnostics { lowering.new.diagnostics.ghost_name ≡ lowering.old.diagnostics.ghost_name }
+    ensures { Steps N lowering.old lowering.new result (code.lower_tombstone n behind.now) }
 {
     lowering.place = n;
     let r = lowering.book.record(n);
-    let reason = first_string(lowering.book, behind, REASON);
-    let since = first_string(lowering.book, behind, SINCE);
-    let c = optional_type(lowering, r.c)?;
+    let reason = first_string(lowering.book, behind, Key::Reason);
+    let since = first_string(lowering.book, behind, Key::Since);
+    let type_expr = optional_type(lowering, reference(r.c))?;
     write(
         lowering,
-        &carried(Kind::LoweredTombstone, reason, since, c, &r),
+        &carried(
+            Kind::LoweredTombstone,
+            reference_number(reason),
+            reference_number(since),
+            reference_number(type_expr),
+            &r,
+        ),
     )
 }
 
@@ -161,12 +165,7 @@ pub(crate) fn lower_variant<const N: usize>(
     lowering: &mut Lowering<'_, '_, '_, '_, N>,
     n: u16,
 ) -> Result<(), Refusal>
-    requires { N ≤ 4096 }
-    ensures answer { result ≡ (lower_variant n (state_of N lowering.old)).answer }
-    ensures state { state_of N lowering.new ≡ (lower_variant n (state_of N lowering.old)).state }
-    ensures names { lowering.new.names.ghost_name ≡ lowering.old.names.ghost_name }
-    ensures results { lowering.new.results.ghost_name ≡ lowering.old.results.ghost_name }
-    ensures diagnostics { lowering.new.diagnostics.ghost_name ≡ lowering.old.diagnostics.ghost_name }
+    ensures { Steps N lowering.old lowering.new result (code.lower_variant n) }
 {
     lowering.place = n;
     let r = lowering.book.record(n);

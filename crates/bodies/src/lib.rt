@@ -8,6 +8,3 @@ mod encoding;
 mod item;
 pub mod laws;
 pub mod reached;
-
-// What stands for no reference.
-const NONE: u16 = 65535;

@@ -1,4 +1,5 @@
--- What the accessors of a book that is read promise: each record, how many there are, and that children are earlier records.
+-- What the accessors of a book that is read promise: each record, how many there are, and that children are earlier
+-- records.
 -- Assumes nothing.
 use Rattle.std.specs.Prelude.{ℕ, ◌≤◌, ◌<◌, Bool, true, false, not, ◌&&◌, ◌||◌, List, [], ◌∷◌, ◌++◌, ◌≡◌, eqb, leb, length, Ok}
 use Rattle.std.proofs.Common.{refl, sym, ◌∙◌, subst, arith}

@@ -114,9 +114,9 @@ unfolding any table
 first_past k less = first_none k 37 less table refl
 
 -- the code's list of first rows is the rule, kind by kind
-pub first_is : (k : ℕ) → k < 37 → get_or FIRST k 0 ≡ first_row k table
+pub first_found : (k x : ℕ) → k < 37 → x ≡ get_or FIRST k x → x ≡ first_row k table
 unfolding table first_row
-first_is k less = cell_at (λ k. first_row k table) 0 37 k less
+first_found k x less is = is ∙ cell_at (λ k. first_row k table) x 37 k less
 
 -- the row that the code finds, by what it stands for
 abbrev row_of_option : Option code_row.Row → defined.Option Row

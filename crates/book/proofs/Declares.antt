@@ -1,23 +1,28 @@
 -- Which names are declared.
 -- Assumes nothing.
-use Prim.Native.Nat.{ℕ, zero, suc, ◌+◌, ◌-◌, ◌*◌, ◌/◌, ◌%◌, ◌^◌, ◌≤◌, ◌<◌}
-use mathlib.Core.Bool.{Bool, true, false, cond, ◌&&◌, ◌||◌, false≢true, true≢false, and-true, or-true, or-false}
+use Prim.Native.Nat.{ℕ, zero, suc, ◌-◌, ◌^◌, ◌≤◌, ◌<◌}
+use Rattle.std.specs.Prelude.{Option, Some, None, bit_and, bit_or}
+use Rattle.std.proofs.lemmas.Nat.{and_or_self, and_or_apart, pow_apart, and_le_l}
+use mathlib.Core.Bool.{Bool, true, false, cond, not, ◌&&◌, ◌||◌, false≢true, true≢false, and-true, or-true, or-false}
 use mathlib.Core.List.{List, Memᴰ}
 use mathlib.Core.Path.{◌≡◌, refl, sym, ap, ◌∙◌, subst}
 use native.Mathlib.Decide.{ℕ_discrete}
+use native.Mathlib.Nat.{one-le-pow}
 use native.Mathlib.Omega.{arith}
-use lib.Dec.{leb, eqb, eqb-zero-suc, eqb-suc-zero}
+use lib.Dec.{lit≤, leb, eqb, eqb-zero-suc, eqb-suc-zero}
 use lib.ListN.{length, take, set, get_or, replicate, length-set, length-replicate, get_or-replicate}
 use lib.Seq.{get_or-set_same, get_or-set_other}
-use borrow.Author.Tests.{ltb-true, leb-true, eqb-true, eqb-false, le-leb, eq-eqb, ne_eqb}
+use borrow.Author.Tests.{ltb-true, leb-true, eqb-true, le-leb, eq-eqb, ne_eqb}
 use Rattle.record.specs.declared.Record.{Record}
 use Rattle.record.specs.declared.kind.Kind.{Kind}
 use Rattle.record.specs.declared.kind.Kind.TheVariants.{Message}
 use Rattle.record.specs.Kind.{code_of}
+use Rattle.book.specs.declared.names.NameSet.{NameSet}
+use Rattle.book.specs.declared.names.NameSet.TheVariants as sets
 use Rattle.book.specs.Lists.{All, any, keep}
 use Rattle.book.specs.Shape.{table, name, allows, well_shaped}
 use Rattle.book.specs.Faults.{record_of, name_set, name_fault}
-use Rattle.book.specs.Tables.{set_bit, has_bit, bit_of, Names}
+use Rattle.book.specs.Tables.{set_bit, has_bit, set_of, bit_of, Names}
 use Rattle.book.specs.Trees.{WellFormed}
 use Rattle.book.proofs.Lists.{either}
 use Rattle.book.proofs.Members.{keep_mem, mem_any, of_all, at_mem_take}
@@ -80,57 +85,20 @@ shaped_name r shaped positive =
     let inside : allows w.a r.a ≡ true = (both_so _ _ (both_so _ _ (both_so _ _ is.inside).0).0).0 in
     ltb-true r.a 4096 (rw a-name at inside)
 
--- the bits of a byte that has not the bit of set s, with that bit
-bits_more :
-    (s t : ℕ) → s < 3 → t < 3 → (x : ℕ) → x / 2 ^ s % 2 ≡ 0 →
-    (x + 2 ^ s) / 2 ^ t % 2 ≡ cond (eqb (suc s) (suc t)) 1 (x / 2 ^ t % 2)
-bits_more zero zero p q x e = omega arith
-bits_more zero (suc zero) p q x e =
-    let low : x % 2 ≡ 0 = omega arith in
-    let same : (x + 1) / 2 ≡ x / 2 = omega arith in
-    ap (λ m. m % 2) same
-bits_more zero (suc (suc zero)) p q x e =
-    let low : x % 4 ≤ 2 = omega arith in
-    let same : (x + 1) / 4 ≡ x / 4 = omega arith in
-    ap (λ m. m % 2) same
-bits_more zero (suc (suc (suc t))) p q x e = absurd (omega arith)
-bits_more (suc zero) zero p q x e = omega arith
-bits_more (suc zero) (suc zero) p q x e = omega arith
-bits_more (suc zero) (suc (suc zero)) p q x e =
-    let low : x % 4 ≤ 1 = omega arith in
-    let same : (x + 2) / 4 ≡ x / 4 = omega arith in
-    ap (λ m. m % 2) same
-bits_more (suc zero) (suc (suc (suc t))) p q x e = absurd (omega arith)
-bits_more (suc (suc zero)) zero p q x e = omega arith
-bits_more (suc (suc zero)) (suc zero) p q x e = omega arith
-bits_more (suc (suc zero)) (suc (suc zero)) p q x e = omega arith
-bits_more (suc (suc zero)) (suc (suc (suc t))) p q x e = absurd (omega arith)
-bits_more (suc (suc (suc s))) t p q x e = absurd (omega arith)
-
-bit_more : (s t : ℕ) → s < 3 → t < 3 → (x : ℕ) → has_bit s x ≡ false → has_bit t (x + 2 ^ s) ≡ has_bit t x || eqb (suc s) (suc t)
-bit_more s t p q x e =
-    let not_yet = eqb-false (x / 2 ^ s % 2) 1 e in
-    ap (λ m. eqb m 1) (bits_more s t p q x (omega arith)) ∙ go (eqb (suc s) (suc t))
+-- the bits of a byte with the bit of set s
+bit_more : (s t x : ℕ) → has_bit t (bit_or x (2 ^ s)) ≡ has_bit t x || eqb (suc s) (suc t)
+bit_more s t x = go (ℕ_discrete s t)
   where
-    go : (b : Bool) → eqb (cond b 1 (x / 2 ^ t % 2)) 1 ≡ has_bit t x || b
-    go true = sym (or-true (has_bit t x))
-    go false = sym (or-false (has_bit t x))
+    go : Dec (s ≡ t) → has_bit t (bit_or x (2 ^ s)) ≡ has_bit t x || eqb (suc s) (suc t)
+    go (yes same) =
+        let some : 2 ^ s ≡ 0 → ⊥ = λ e. omega (arith, one-le-pow s 2 (lit≤ tt)) in
+        rw (← same, and_or_self (2 ^ s) x, ne_eqb (2 ^ s) 0 some, eq-eqb (suc s) (suc s) refl) (sym (or-true (has_bit s x)))
+    go (no other) =
+        rw (and_or_apart (2 ^ t) x (2 ^ s) (pow_apart s t other), ne_eqb (suc s) (suc t) (λ e. other (omega arith)))
+        (sym (or-false (has_bit t x)))
 
-no_bits : (s : ℕ) → s < 3 → has_bit s 0 ≡ false
-no_bits zero p = refl
-no_bits (suc zero) p = refl
-no_bits (suc (suc zero)) p = refl
-no_bits (suc (suc (suc s))) p = absurd (omega arith)
-
--- they are among the three lowest
-low_bits : (t x : ℕ) → t < 3 → has_bit t (x % 8) ≡ has_bit t x
-low_bits t x low = ap (λ m. eqb m 1) (go t x low)
-  where
-    go : (t x : ℕ) → t < 3 → x % 8 / 2 ^ t % 2 ≡ x / 2 ^ t % 2
-    go zero x low = omega arith
-    go (suc zero) x low = let part : x / 2 ≡ 4 * (x / 8) + x % 8 / 2 = omega arith in omega arith
-    go (suc (suc zero)) x low = let part : x / 4 ≡ 2 * (x / 8) + x % 8 / 4 = omega arith in omega arith
-    go (suc (suc (suc t))) x low = absurd (omega arith)
+no_bits : (s : ℕ) → has_bit s 0 ≡ false
+no_bits s = let none : bit_and 0 (2 ^ s) ≡ 0 = omega (arith, and_le_l 0 (2 ^ s)) in ap (λ n. not (eqb n 0)) none
 
 -- a record with a bit declares in the set of that bit
 module _ (r : Record) {bit : ℕ} (is : bit ≡ set_bit (name_set r)) (some : bit ≡ 0 → ⊥) where
@@ -143,14 +111,31 @@ module _ (r : Record) {bit : ℕ} (is : bit ≡ set_bit (name_set r)) (some : bi
   pub name_low : (0 < name_set r → r.a < 4096) → r.a < 4096
   name_low named = named (omega (arith, in_set))
 
+-- the bit of a set, 0 where there is none
+abbrev bit_or_0 : Option NameSet → ℕ
+bit_or_0 None = 0
+bit_or_0 (Some set) = bit_of set
+
+bit_is_some : (set : NameSet) → bit_of set ≡ 0 → ⊥
+bit_is_some sets.Types e = absurd (omega arith)
+bit_is_some sets.Constants e = absurd (omega arith)
+bit_is_some sets.Ambiguous e = absurd (omega arith)
+
 -- the bit of the set of a kind
-pub bit_is_lem : (k : Kind) (r : Record) → r.kind ≡ code_of k → bit_of k ≡ set_bit (name_set r)
-unfolding name_set
-bit_is_lem k r is = subst (λ n. bit_of k ≡ set_bit (name_set (with_kind n r))) (sym is) (by k)
-  where
-    by : (k : Kind) → bit_of k ≡ set_bit (name_set (with_kind (code_of k) r))
-    by Message = refl
-    by _ = refl
+module _ (k : Kind) (r : Record) (is : r.kind ≡ code_of k) where
+  bit_by_kind : bit_or_0 (set_of k) ≡ set_bit (name_set r)
+  unfolding name_set
+  bit_by_kind = subst (λ n. bit_or_0 (set_of k) ≡ set_bit (name_set (with_kind n r))) (sym is) (by k)
+    where
+      by : (k : Kind) → bit_or_0 (set_of k) ≡ set_bit (name_set (with_kind (code_of k) r))
+      by Message = refl
+      by _ = refl
+
+  pub no_set_of : None ≡ set_of k → set_bit (name_set r) ≡ 0
+  no_set_of none = sym (ap bit_or_0 none ∙ bit_by_kind)
+
+  pub set_bit_of : (set : NameSet) {bit : ℕ} → Some set ≡ set_of k → bit ≡ bit_of set → (bit ≡ set_bit (name_set r)) × (bit ≡ 0 → ⊥)
+  set_bit_of set {bit} some e = (e ∙ ap bit_or_0 some ∙ bit_by_kind, λ none. bit_is_some set (sym e ∙ none))
 
 -- before record 0 nothing is declared
 pub names_start : (rs : List Record) → Names rs 0 (replicate 4096 0)
@@ -158,7 +143,7 @@ unfolding any
 names_start rs =
     record {
       long = length-replicate {A = ℕ} 4096 0;
-      marks = λ s k low high. ap (has_bit s) (get_or-replicate 4096 k 0 0 high) ∙ no_bits s low;
+      marks = λ s k low high. ap (has_bit s) (get_or-replicate 4096 k 0 0 high) ∙ no_bits s;
     }
 
 -- a record declares name k in set s, counted from 0
@@ -202,9 +187,9 @@ module _
       no_bit (suc (suc zero)) low e = absurd (omega arith)
       no_bit (suc (suc (suc s))) low e = let z : s ≡ 0 = omega arith in absurd (omega (arith, ap (λ s. 2 ^ suc (suc s)) z))
 
-  -- the three bits of its name
+  -- the bits of its name
   abbrev bits : ℕ
-  bits = get_or names r.a 0 % 8
+  bits = get_or names r.a 0
 
   -- it declares one in set s, counted from 0
   module _ (s : ℕ) (e : name_set r ≡ suc s) (low : r.a < 4096) where
@@ -213,7 +198,7 @@ module _
 
     has_it : has_bit s bits ≡ name_fault rs n
     unfolding name_fault
-    has_it = rw (← is, e, eqb-suc-zero s) (low_bits s _ few ∙ known.marks s r.a few low)
+    has_it = rw (← is, e, eqb-suc-zero s) (known.marks s r.a few low)
 
     again : has_bit s bits ≡ true → (true ≡ name_fault rs n) × Names rs (suc n) names
     again has = (sym has ∙ has_it, next refl (λ t k p high. stays (has_bit t (get_or names k 0)) (names_it t k r) (same t k)))
@@ -223,36 +208,36 @@ module _
             let (set_is, name_is) = both_so (eqb (name_set r) (suc t)) (eqb r.a k) it in
             let p : s ≡ t = omega (arith, e, eqb-true (name_set r) (suc t) set_is) in
             let q : r.a ≡ k = eqb-true r.a k name_is in
-            rw (← p, ← q) (sym (low_bits s (get_or names r.a 0) few) ∙ has)
+            rw (← p, ← q) has
 
-    new : has_bit s bits ≡ false → (false ≡ name_fault rs n) × Names rs (suc n) (set names r.a (bits + 2 ^ s))
+    new : has_bit s bits ≡ false → (false ≡ name_fault rs n) × Names rs (suc n) (set names r.a (bit_or bits (2 ^ s)))
     new has =
-        (sym has ∙ has_it, next (length-set names r.a (bits + 2 ^ s)) (λ t k p high. marked t k p (ℕ_discrete k r.a)))
+        (sym has ∙ has_it, next (length-set names r.a (bit_or bits (2 ^ s))) (λ t k p high. marked t k p (ℕ_discrete k r.a)))
       where
         marked :
             (t k : ℕ) → t < 3 → Dec (k ≡ r.a) →
-            has_bit t (get_or (set names r.a (bits + 2 ^ s)) k 0) ≡ has_bit t (get_or names k 0) || names_it t k r
+            has_bit t (get_or (set names r.a (bit_or bits (2 ^ s))) k 0) ≡ has_bit t (get_or names k 0) || names_it t k r
         marked t k p (yes same) =
             let there : r.a < length names = omega (arith, known.long) in
             let it : names_it t r.a r ≡ eqb (suc s) (suc t) = rw (e, eq-eqb r.a r.a refl) (and-true (eqb (suc s) (suc t))) in
-            rw (same, get_or-set_same names r.a (bits + 2 ^ s) 0 there, it)
-            (bit_more s t few p bits has ∙ ap (λ b. b || eqb (suc s) (suc t)) (low_bits t (get_or names r.a 0) p))
+            rw (same, get_or-set_same names r.a (bit_or bits (2 ^ s)) 0 there, it)
+            (bit_more s t bits)
         marked t k p (no other) =
             let not_it : names_it t k r ≡ false = not_so (names_it t k r) (λ b.
             other (sym (eqb-true r.a k (both_so (eqb (name_set r) (suc t)) (eqb r.a k) b).1))) in
-            rw (get_or-set_other names r.a k (bits + 2 ^ s) 0 other, not_it) (sym (or-false (has_bit t (get_or names k 0))))
+            rw (get_or-set_other names r.a k (bit_or bits (2 ^ s)) 0 other, not_it) (sym (or-false (has_bit t (get_or names k 0))))
 
   -- it declares one, by the bit of its set
   module _ {bit : ℕ} (of_set : bit ≡ set_bit (name_set r)) (some : bit ≡ 0 → ⊥) (low : r.a < 4096) where
-    pub declares_again : bits / bit % 2 ≡ 1 → (true ≡ name_fault rs n) × Names rs (suc n) names
+    pub declares_again : (bit_and bits bit ≡ 0 → ⊥) → (true ≡ name_fault rs n) × Names rs (suc n) names
     declares_again e =
-        again (name_set r - 1) (in_set r of_set some) low (eq-eqb _ 1 (rw (bit_is r of_set some) at e))
+        again (name_set r - 1) (in_set r of_set some) low (ap not (ne_eqb _ 0 (rw (bit_is r of_set some) at e)))
 
     pub declares_new :
-        (bits / bit % 2 ≡ 1 → ⊥) → (false ≡ name_fault rs n) × Names rs (suc n) (set names r.a (bits + bit))
+        bit_and bits bit ≡ 0 → (false ≡ name_fault rs n) × Names rs (suc n) (set names r.a (bit_or bits bit))
     declares_new e =
         rw (bit_is r of_set some)
-        (new (name_set r - 1) (in_set r of_set some) low (ne_eqb _ 1 (rw (bit_is r of_set some) at e)))
+        (new (name_set r - 1) (in_set r of_set some) low (ap not (eq-eqb _ 0 (rw (bit_is r of_set some) at e))))
 
 -- record j stands among those before k
 there_before : (rs : List Record) (j k : ℕ) → j < length rs → j < k → Memᴰ (record_of rs j) (take k rs)

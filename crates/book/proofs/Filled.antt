@@ -20,9 +20,3 @@ module _ {A : Type 0} where
   -- a table of n cells
   pub cell_at : (f : ℕ → A) (d : A) (n k : ℕ) → k < n → get_or (tab f 0 n) k d ≡ f k
   cell_at f d n k less = tab_from f d 0 n k less ∙ ap f (omega arith)
-
--- a table of n rows of m cells
-pub table_at :
-    {A : Type 0} (f : ℕ → ℕ → A) (d : A) (n m b k : ℕ) → b < n → k < m →
-    get_or (get_or (tab (λ b. tab (f b) 0 m) 0 n) b []) k d ≡ f b k
-table_at f d n m b k row column = ap (λ l. get_or l k d) (cell_at (λ b. tab (f b) 0 m) [] n b row) ∙ cell_at (f b) d m k column

@@ -1,5 +1,5 @@
--- The first refusal is the first row that holds. What `find` gives is followed through lists in the order of a key; `in_order` is in the
--- order of three: the part of the book, the place in it, and the number of the cause.
+-- The first refusal is the first row that holds. What `find` gives is followed through lists in the order of a key;
+-- `in_order` is in the order of three: the part of the book, the place in it, and the number of the cause.
 -- Assumes nothing.
 use Prim.Native.Nat.{ℕ, zero, suc, ◌+◌, ◌≤◌, ◌<◌}
 use mathlib.Core.Bool.{Bool, true, false, ◌&&◌, ◌||◌, false≢true}
@@ -93,7 +93,8 @@ module _ {A : Type 0} (test : A → Bool) (before : A → A → Bool) where
         append n (suc n) end (f n) (flat_map f (from (suc n) m)) (omega arith) (omega arith) (h n)
         (each f h m (suc n) end (omega arith))
 
--- one key of `earlier`, and the rest, which decides where the key is equal: why the order fails, and what is known where it fails both ways
+-- one key of `earlier`, and the rest, which decides where the key is equal: why the order fails, and what is known
+-- where it fails both ways
 not_below : (a b : ℕ) (rest : Bool) → b ≤ a → (a ≡ b → rest ≡ true → ⊥) → ltb a b || eqb a b && rest ≡ true → ⊥
 not_below a b rest h f e = go (ℕ_discrete a b)
   where

@@ -2,7 +2,7 @@
 -- Assumes nothing.
 use Prim.Native.Nat.{ℕ, zero, suc, ◌+◌, ◌≤◌, ◌<◌}
 use mathlib.Core.Bool.{Bool, true, false, cond, ◌&&◌, ◌||◌, or-false, true≢false}
-use mathlib.Core.List.{List, [], ◌∷◌, ◌++◌, map, append-nil, Memᴰ}
+use mathlib.Core.List.{List, [], ◌∷◌, ◌++◌, map, append-nil}
 use mathlib.Core.Path.{◌≡◌, refl, sym, ap, ◌∙◌}
 use native.Mathlib.Omega.{arith}
 use lib.ListN.{length, take}
@@ -10,8 +10,7 @@ use lib.Seq.{take-suc}
 use Rattle.record.specs.declared.Record.{Record}
 use Rattle.book.specs.Lists.{any, keep, from, up_to}
 use Rattle.book.specs.Faults.{record_of}
-use Rattle.book.proofs.Lists.{any_more, keep-length, from-length}
-use Rattle.book.proofs.Members.{mem_keep, mem_up_to}
+use Rattle.book.proofs.Lists.{any_more}
 use Rattle.book.proofs.Places.{keep_append}
 use Rattle.book.proofs.Marks.{up_to_last}
 
@@ -69,12 +68,6 @@ module _ (test : Record → Bool) (rs : List Record) where
       let passes : ℕ → Bool = λ k. test (record_of rs k) in
       ap (keep passes) (up_to_last n) ∙ keep_more passes (up_to n) n
       ∙ ap (λ b. cond b (numbers_below test rs n ++ (n ∷ [])) (numbers_below test rs n)) e
-
-  pub listed_length : (n : ℕ) → length (numbers_below test rs n) ≤ n
-  listed_length n = omega (arith, keep-length (λ k. test (record_of rs k)) (up_to n), from-length 0 n)
-
-  pub mem_listed : {k : ℕ} (n : ℕ) → Memᴰ k (numbers_below test rs n) → (k < n) × (test (record_of rs k) ≡ true)
-  mem_listed n m = let (among, passes) = mem_keep _ (up_to n) m in (mem_up_to n among, passes)
 
   -- whether one of them passes another test
   pub any_listed :

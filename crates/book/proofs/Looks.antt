@@ -31,7 +31,7 @@ use Rattle.book.specs.Faults.{record_of, shape_fault, child_fault, before, may_f
 use Rattle.book.specs.Refusal.{Cause, Refusal, shape, child, follow, name, depth, at, faulty, at_record, holds}
 use Rattle.book.specs.Answer.{named, outcome}
 use Rattle.book.specs.Rows.{group_from, row_from, is_outside_group, IsRow, is_plain}
-use Rattle.book.specs.Tables.{following, set_bit, Trees, wrong, TakenAll, unless, too_deep, grown, grown_by, Names, Counted, Placed, place_of, Known, Ready, Looked}
+use Rattle.book.specs.Tables.{following, set_bit, Trees, wrong, TakenAll, unless, too_deep, grown, grown_by, Names, Counted, Placed, standing_of, Known, Ready, Looked}
 use Rattle.book.proofs.Trees.{both_not, none_passes}
 use Rattle.book.proofs.Records.{records-length, record_here}
 use Rattle.book.proofs.Scans.{Passed, scan_here, scan_on}
@@ -188,7 +188,7 @@ module _ {book : List ℕ} {n : ℕ} {r : Record} {s₀ : Scan} (ready : Ready b
 
           pub passed :
               {s : Scan} {x : Unit {0}} → too_deep w.group levels ≡ false → s.trees ≡ set trees n (Some (record { group = w.group; levels = levels + 1 })) →
-              Names rs (suc n) s.names → Placed (following r (before rs n)) (place_of s.place) → Looked book n (Ok x) s
+              Names rs (suc n) s.names → Placed (following r (before rs n)) (standing_of s.standing) → Looked book n (Ok x) s
           unfolding first_of outcome is_of
           passed {s} {x} fine tree_is named placed =
               record {
@@ -208,7 +208,7 @@ module _ {book : List ℕ} {n : ℕ} {r : Record} {s₀ : Scan} (ready : Ready b
                       (subst (λ cs. Trees rs n cs trees) same_children taken.left));
                   names_are = named;
                   placed =
-                      subst (λ bs. Placed bs (place_of s.place))
+                      subst (λ bs. Placed bs (standing_of s.standing))
                       (ap (λ r. following r (before rs n)) ready.is ∙ sym (before_next rs n less)) placed;
                 };
               }
@@ -219,7 +219,7 @@ first = record { group = group.«Type»; kind = Primitive; low = 0; high = 13; a
 
 pub primitive_passes :
     {book : List ℕ} {n : ℕ} {r : Record} {s₀ : Scan} {x : Unit {0}} → Ready book n r s₀ → is_plain r ≡ true →
-    Looked book n (Ok x) (record { trees = set s₀.trees n (Some (record { group = group.«Type»; levels = 1 })); names = s₀.names; place = s₀.place })
+    Looked book n (Ok x) (record { trees = set s₀.trees n (Some (record { group = group.«Type»; levels = 1 })); names = s₀.names; standing = s₀.standing })
 unfolding child_in
 primitive_passes {book} {n} {r} {s₀} ready plain =
     let bs = before (records book) n in
@@ -229,7 +229,7 @@ primitive_passes {book} {n} {r} {s₀} ready plain =
     let none_declared = ap set_bit (sym (no_set r (λ low high. omega (arith, known.kind_is)))) in
     let (new, named) = declares_none ready.known.names_are (less ready) ready.is none_declared in
     passed ready is taken (not_item r bs (omega (arith, known.kind_is))) (sym new) refl refl named
-    (placed_same r bs (place_of s₀.place) (omega (arith, known.kind_is)) ready.known.placed)
+    (placed_same r bs (standing_of s₀.standing) (omega (arith, known.kind_is)) ready.known.placed)
 
 -- before record n is looked at
 pub ready_at :

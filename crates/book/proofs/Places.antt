@@ -21,11 +21,11 @@ use Rattle.book.specs.Shape.{Row, table, well_shaped}
 use Rattle.book.specs.Faults.{record_of, before, is_kind, is_declaration, is_union_tombstone}
 use Rattle.book.specs.Faults.{first_is, follows, under, variant_open, fields_go_here, may_follow}
 use Rattle.book.specs.Follow.{is_one_of, behind, follow_of}
-use Rattle.book.specs.Tables.{Place, Placed, kind_or_0, following, has_room, open_behind, declaration_behind, variant_behind}
+use Rattle.book.specs.Tables.{Standing, Placed, kind_or_0, following, has_room, open_behind, declaration_behind, variant_behind}
 use Rattle.book.specs.Rows.{IsRow, is_outside_group}
 use Rattle.book.proofs.Lists.{itself, either}
 use Rattle.book.proofs.Cells.{kind_is, shaped, outside_is}
-use Rattle.book.proofs.Filled.{table_at}
+use Rattle.book.proofs.Filled.{tab, cell_at}
 use Rattle.book.proofs.Members.{keep_mem, any_mem, of_all}
 use Rattle.book.proofs.Trees.{not_so, both_so, none_passes, shaped_row, with_kind}
 
@@ -61,11 +61,6 @@ before_next rs n less =
         (b : Bool) → reverse (cond b (record_of rs n ∷ []) []) ++ before rs n ≡ cond b (record_of rs n ∷ before rs n) (before rs n)
     last true = refl
     last false = refl
-
--- the code's table is the rule, cell by cell
-pub follow_is : (b k : ℕ) → b < 37 → k < 37 → get_or (get_or FOLLOW b []) k false ≡ follow_of b k
-unfolding any behind follow_of
-follow_is b k row column = table_at follow_of false 37 37 b k row column
 
 -- a number that is one of some
 pub one_of : (P : ℕ → Type 0) (l : List ℕ) (k : ℕ) → is_one_of l k ≡ true → All P l → P k
@@ -139,11 +134,11 @@ room_in r bs =
     && (not (is_union_tombstone r || is_kind 33 r) || under 21 bs)
 
 -- where fields go
-abbrev for_fields : Place → Bool
+abbrev for_fields : Standing → Bool
 for_fields p = eqb p.declaration 20 || eqb p.declaration 21 && p.variant
 
 -- what a place tells of the records before
-module _ (bs : List Record) (p : Place) (h : Placed bs p) where
+module _ (bs : List Record) (p : Standing) (h : Placed bs p) where
   under_is : (k : ℕ) → eqb p.declaration (suc k) ≡ under (suc k) bs
   under_is k = ap (λ d. eqb d (suc k)) h.declaration_is ∙ sym (first_is_lem is_declaration k bs)
 
@@ -246,7 +241,7 @@ module _ (bs : List Record) (p : Place) (h : Placed bs p) where
       opened false t = rw (first_is, find, t) h.variant_is
 
 -- kinds up to 16 are passed over, and at the start there is nothing
-pub placed_same : (r : Record) (bs : List Record) (p : Place) → r.kind ≤ 16 → Placed bs p → Placed (following r bs) p
+pub placed_same : (r : Record) (bs : List Record) (p : Standing) → r.kind ≤ 16 → Placed bs p → Placed (following r bs) p
 placed_same r bs p low h = rw (le-ltb 16 r.kind low) h
 
 pub placed_start : Placed [] (record { before = 0; declaration = 0; variant = false })
@@ -282,6 +277,22 @@ unfolding follow_of
 no_kind_before b k high =
     sym (not_so (is_one_of (behind k) b) (λ e. let low = one_of (λ b. b < 37) (behind k) b e (behind_few k) in omega arith))
 
+-- the code's table is the rule, row by row and cell by cell
+row_is : (b : ℕ) (row : List Bool) → b < 37 → row ≡ get_or FOLLOW b row → row ≡ tab (follow_of b) 0 37
+unfolding any behind follow_of
+row_is b row low is = is ∙ cell_at (λ b. tab (follow_of b) 0 37) row 37 b low
+
+module _ (b : ℕ) (row : List Bool) (low : b < 37) (is : row ≡ get_or FOLLOW b row) (k : ℕ) where
+  row_length : length row ≡ 37
+  row_length = ap length (row_is b row low is)
+
+  pub may_found : (may : Bool) → k < length row → may ≡ get_or row k may → may ≡ follow_of b k
+  may_found may less found =
+      found ∙ ap (λ l. get_or l k may) (row_is b row low is) ∙ cell_at (follow_of b) may 37 k (omega (arith, row_length))
+
+  pub none_found : length row ≤ k → false ≡ follow_of b k
+  none_found past = no_kind b k (omega (arith, row_length))
+
 -- a kind by its number, behind a record
 declaration_is : (k : Kind) (r : Record) (d : ℕ) → r.kind ≡ code_of k → declaration_behind k d ≡ cond (is_declaration r) r.kind d
 declaration_is k r d is = subst (λ n. declaration_behind k d ≡ cond (is_declaration (with_kind n r)) n d) (sym is) (by k)
@@ -313,16 +324,16 @@ module _ {r : Record} {w : code_row.Row} (is : IsRow r w) where
   pub anywhere : is_outside_group w.group ≡ false → (bs : List Record) → may_follow r bs ≡ true
   anywhere e bs = not_item r bs (omega (arith, passed_over e))
 
-  pub by_kinds : is_outside_group w.group ≡ true → (bs : List Record) (p : Place) → Placed bs p → follow_of p.before (code_of w.kind) && has_room r p ≡ may_follow r bs
+  pub by_kinds : is_outside_group w.group ≡ true → (bs : List Record) (p : Standing) → Placed bs p → follow_of p.before (code_of w.kind) && has_room r p ≡ may_follow r bs
   by_kinds e bs p h =
       ap (λ k. follow_of p.before k && has_room r p) (sym (kind_is is))
       ∙ may_follow_lem bs p h r (shaped is) (looked_at e)
 
-  pub passed_on : is_outside_group w.group ≡ false → (bs : List Record) (p : Place) → Placed bs p → Placed (following r bs) p
+  pub passed_on : is_outside_group w.group ≡ false → (bs : List Record) (p : Standing) → Placed bs p → Placed (following r bs) p
   passed_on e bs p h = placed_same r bs p (passed_over e) h
 
   pub gone_on :
-      is_outside_group w.group ≡ true → (bs : List Record) (p : Place) → Placed bs p → may_follow r bs ≡ true →
+      is_outside_group w.group ≡ true → (bs : List Record) (p : Standing) → Placed bs p → may_follow r bs ≡ true →
       Placed (following r bs) (record { before = code_of w.kind; declaration = declaration_behind w.kind p.declaration; variant = variant_behind w.kind r.sub p.variant })
   gone_on e bs p h may =
       subst (λ k. Placed (following r bs) (record { before = k; declaration = declaration_behind w.kind p.declaration; variant = variant_behind w.kind r.sub p.variant })) (kind_is is)

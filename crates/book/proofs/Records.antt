@@ -1,4 +1,5 @@
--- The records of a book of bytes: their fields are within their widths, they are as many as are counted, and each is read at its own place.
+-- The records of a book of bytes: their fields are within their widths, they are as many as are counted, and each is
+-- read at its own place.
 -- Assumes nothing.
 use Prim.Native.Nat.{ℕ, zero, suc, ◌+◌, ◌*◌, ◌/◌, ◌%◌, ◌<◌}
 use mathlib.Core.List.{List, [], ◌∷◌, map}

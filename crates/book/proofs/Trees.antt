@@ -1,4 +1,5 @@
--- Proofs by the rows of the table, and readers that take so many levels of a tree: more levels than there are give the same.
+-- Proofs by the rows of the table, and readers that take so many levels of a tree: more levels than there are give the
+-- same.
 -- Assumes nothing.
 use Prim.Native.Nat.{ℕ, zero, suc, ◌+◌, ◌≤◌, ◌<◌}
 use mathlib.Core.Bool.{Bool, true, false, cond, ◌&&◌, ◌||◌, false≢true, true≢false}

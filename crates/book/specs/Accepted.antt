@@ -1,4 +1,5 @@
--- What reading some bytes gives: the reader's book, or the cause and the place that refuse it; and what holds of each book that is read.
+-- What reading some bytes gives: the reader's book, or the cause and the place that refuse it; and what holds of each
+-- book that is read.
 -- Assumes nothing.
 use Rattle.std.specs.Prelude.{ℕ, ◌<◌, ◌≤◌, Bool, List, ◌≡◌, length, Result, Ok, Err}
 use Rattle.std.proofs.Math.Option.{Option, some, none}

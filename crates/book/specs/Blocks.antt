@@ -1,4 +1,4 @@
--- The blocks of a book, causes 1 to 3, and its records. Words in quotation marks are document 01's.
+-- The blocks of a book, causes 1 to 3, and its records. Words in quotation marks are rules of docs/FORMAT.md in brief.
 -- Assumes nothing.
 use Rattle.std.specs.Prelude.{ℕ, ◌+◌, ◌-◌, ◌*◌, ◌/◌, ◌%◌, Bool, cond, not, ◌&&◌, ◌||◌, List, map, leb, ltb, eqb, length, take, drop, get_or}
 use Rattle.record.specs.Bytes.{little_endian}

@@ -1,4 +1,5 @@
--- Causes 4 to 8: what is wrong with record n, told from the records alone. Words in quotation marks are document 01's.
+-- Causes 4 to 8: what is wrong with record n, told from the records alone. Words in quotation marks are rules of
+-- docs/FORMAT.md in brief.
 -- Assumes nothing.
 use Rattle.std.specs.Prelude.{ℕ, zero, suc, Bool, true, false, cond, not, ◌&&◌, ◌||◌, List, [], ◌∷◌, reverse, leb, ltb, eqb, take, get_or}
 use Rattle.std.proofs.Math.Option.{Option, some, none}

@@ -1,4 +1,5 @@
--- What is claimed of the first refusal; the proofs are in proofs/First.antt. Words in quotation marks are document 01's.
+-- What is claimed of the first refusal; the proofs are in proofs/First.antt. Words in quotation marks are rules of
+-- docs/FORMAT.md in brief.
 -- Assumes nothing.
 use Rattle.std.specs.Prelude.{ℕ, Bool, true, ◌&&◌, ◌||◌, List, ◌↔◌, ◌≡◌, ltb, eqb}
 use Rattle.std.proofs.Math.Option.{some, none}
@@ -6,7 +7,7 @@ use Rattle.book.specs.Blocks.{blocks, record_count, records}
 use Rattle.book.specs.Refusal.{Cause, book_length, check, block, shape, child, follow, name, depth}
 use Rattle.book.specs.Refusal.{Refusal, number, faulty, first_refusal}
 
--- "Returned place": 0, a block of the book, or a record of the book
+-- the place of a cause: 0, a block of the book, or a record of the book
 unfoldable pub has_place : List ℕ → Cause → ℕ → Bool
 has_place book book_length p = eqb p 0
 has_place book check k = ltb k (blocks book)

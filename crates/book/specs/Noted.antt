@@ -1,9 +1,9 @@
 -- The records of a book that are no part of a tree, by their numbers: what is looked for again and again is noted once.
 -- Assumes nothing.
-use Rattle.std.specs.Prelude.{ℕ, Bool, true, false, List, ltb, Result, Ok}
+use Rattle.std.specs.Prelude.{ℕ, Bool, false, List, ltb, Result, Ok, Err}
+use Rattle.record.specs.Kind.{is_declaration_kind, is_item_kind}
 use Rattle.record.specs.declared.Record.{Record}
 use Rattle.record.specs.declared.kind.Kind.{Kind}
-use Rattle.record.specs.declared.kind.Kind.TheVariants.{Message, Union, Newtype, Alias, Constant, Ambiguous, TypeParameter, Field, Tombstone, Variant, Annotation, Argument, TombstoneArgument}
 use Rattle.record.specs.declared.kind.UnknownKind.{UnknownKind}
 use Rattle.book.specs.Faults.{is_declaration}
 use Rattle.book.specs.Outline.{Book, numbers_of}
@@ -23,20 +23,9 @@ noted_of book = record { declarations = numbers_of is_declaration book; outside 
 
 -- the kind is that of a declaration, or of an item
 abbrev pub declares : Result Kind UnknownKind → Bool
-declares (Ok Message) = true
-declares (Ok Union) = true
-declares (Ok Newtype) = true
-declares (Ok Alias) = true
-declares (Ok Constant) = true
-declares (Ok Ambiguous) = true
-declares _ = false
+declares (Ok kind) = is_declaration_kind kind
+declares (Err e) = false
 
 abbrev pub is_item : Result Kind UnknownKind → Bool
-is_item (Ok TypeParameter) = true
-is_item (Ok Field) = true
-is_item (Ok Tombstone) = true
-is_item (Ok Variant) = true
-is_item (Ok Annotation) = true
-is_item (Ok Argument) = true
-is_item (Ok TombstoneArgument) = true
-is_item _ = false
+is_item (Ok kind) = is_item_kind kind
+is_item (Err e) = false

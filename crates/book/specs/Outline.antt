@@ -1,5 +1,5 @@
 -- A book that is read: its records and its wildcard byte; which records stand under which declaration or item.
--- Words in quotation marks are document 01's.
+-- Words in quotation marks are rules of docs/FORMAT.md in brief.
 -- Assumes nothing.
 use Rattle.std.specs.Prelude.{ℕ, suc, ◌-◌, Bool, not, List, [], ◌∷◌, ltb, length, drop}
 use Rattle.record.specs.declared.Record.{Record}
@@ -29,12 +29,14 @@ numbers_of test book = keep (λ n. test (book ! n)) (up_to (length book.records)
 abbrev pub is_one_of : List ℕ → Record → Bool
 is_one_of kinds r = any (λ k. is_kind k r) kinds
 
--- what stands behind a declaration or an item and belongs to it: type parameters, annotations and arguments (30, 34 to 36)
+-- what stands behind a declaration or an item and belongs to it: type parameters, annotations and arguments (30, 34 to
+-- 36)
 unfoldable pub notes : Book → ℕ → List Record
 notes book n =
     keep_while (is_one_of (30 ∷ 34 ∷ 35 ∷ 36 ∷ [])) (keep (λ r. ltb 16 r.kind) (drop (suc n) book.records))
 
--- the numbers of the fields, tombstones and variants (31 to 33) of a declaration: "The latest declaration is the one meant"
+-- the numbers of the fields, tombstones and variants (31 to 33) of a declaration: "The latest declaration is the one
+-- meant"
 unfoldable pub items : Book → ℕ → List ℕ
 items book n =
     keep

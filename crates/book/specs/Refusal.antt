@@ -1,4 +1,4 @@
--- Which refusal of causes 1 to 8 comes first. Words in quotation marks are document 01's.
+-- Which refusal of causes 1 to 8 comes first. Words in quotation marks are rules of docs/FORMAT.md in brief.
 -- Assumes nothing.
 use Rattle.std.specs.Prelude.{ℕ, Bool, not}
 use mathlib.Core.List.{List, [], ◌∷◌, ◌++◌, flat_map}
@@ -9,11 +9,11 @@ use Rattle.book.specs.Lists.{find, up_to}
 use Rattle.book.specs.Blocks.{length_fault, block_fault, blocks, record_count, records}
 use Rattle.book.specs.Faults.{shape_fault, child_fault, follow_fault, name_fault, depth_fault}
 
--- the rows 1 to 8 of the table "When a book is turned back"
+-- the rows 1 to 8 of the table of causes (docs/FORMAT.md, section 4)
 pub data Cause : Type 0 where
   book_length check block shape child follow name depth : Cause
 
--- "Number"
+-- the number of the cause
 unfoldable pub number : Cause → ℕ
 number book_length = 1
 number check = 2
@@ -35,7 +35,7 @@ faulty book rs follow n = follow_fault rs n
 faulty book rs name n = name_fault rs n
 faulty book rs depth n = depth_fault rs n
 
--- a cause at a place: "0", "block" or "record"
+-- a cause at a place: 0, a block or a record
 pub record Refusal : Type 0 where
   pub cause : Cause
   pub place : ℕ

@@ -1,13 +1,11 @@
 -- How the code's table of shapes is the definition's.
 -- Assumes nothing.
-use Rattle.std.specs.Prelude.{ℕ, suc, ◌-◌, ◌^◌, Bool, true, false, List, [], ◌∷◌, ◌&&◌, ◌≡◌, eqb, leb, Option, Some, None, Result, Ok, Err}
+use Rattle.std.specs.Prelude.{ℕ, suc, ◌-◌, ◌^◌, Bool, true, false, List, [], ◌∷◌, ◌&&◌, ◌≡◌, eqb, leb, Option, Some, None}
 use Rattle.std.specs.Borrow.{Bor}
 use Rattle.std.proofs.Math.Option as defined
 use Rattle.std.proofs.Math.Option.{some, none}
 use Rattle.record.specs.declared.Record.{Record}
 use Rattle.record.specs.Kind.{code_of}
-use Rattle.record.specs.declared.refusal.Refusal as answered
-use Rattle.record.specs.declared.refusal.Cause.TheVariants.{Shape}
 use Rattle.book.specs.declared.shape.Group as code_group
 use Rattle.book.specs.declared.shape.Group.TheVariants.{«Type», Constant, Constraint, Operand, Declaration, Item}
 use Rattle.book.specs.declared.shape.Field as code_field
@@ -101,8 +99,3 @@ is_outside_group _ = false
 pub record IsRow (r : Record) (w : code_row.Row) : Type 0 where
   pub row_is : row_of r ≡ some (row_from w)
   pub fitting : fits r (row_of r) ≡ true
-
--- the row of record n, which is r, or cause 4
-abbrev pub Shaped : ℕ → Record → Result (Bor code_row.Row) answered.Refusal → Type 0
-Shaped n r (Ok w) = IsRow r w.now
-Shaped n r (Err e) = (fits r (row_of r) ≡ false) × (e ≡ record { cause = Shape; place = n })

@@ -1,11 +1,12 @@
--- The kinds of records: their groups, their subs and the values of their fields. Words in quotation marks are document 01's.
+-- The kinds of records: their groups, their subs and the values of their fields. Words in quotation marks are rules of
+-- docs/FORMAT.md in brief.
 -- Assumes nothing.
 use Rattle.std.specs.Prelude.{ℕ, ◌^◌, Bool, true, false, ◌&&◌, ◌||◌, List, [], ◌∷◌, ◌++◌, leb, ltb, eqb}
 use Rattle.std.proofs.Math.Option.{Option, some, none}
 use Rattle.book.specs.Lists.{find}
 use Rattle.record.specs.declared.Record.{Record}
 
--- the headings of document 01's lists of kinds: "Types", "Constants", "Constraints", "Operands", "Declarations", "Items"
+-- the groups of kinds: types, constants, constraints, operands, declarations, items
 pub data Group : Type 0 where
   type constant constraint operand declaration item : Group
 
@@ -50,7 +51,8 @@ abbrev pub row : Group → ℕ → ℕ → ℕ → Field → Field → Field →
 row g kind low high a b c v =
     record { group = g; kind = kind; low = low; high = high; a = a; b = b; c = c; v = v }
 
--- document 01's lists, line by line. A kind stands in several rows where its subs have different fields.
+-- the table of kinds (docs/FORMAT.md, section 2), line by line. A kind stands in several rows where its subs have
+-- different fields.
 -- A row: group, kind, first and last sub, then what a, b, c and v may hold.
 unfoldable pub table : List Row
 table =

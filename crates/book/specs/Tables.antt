@@ -1,18 +1,22 @@
 -- What the working tables of the reading hold when record n is looked at.
 -- Assumes nothing.
-use Rattle.std.specs.Prelude.{ℕ, zero, suc, ◌+◌, ◌/◌, ◌%◌, ◌^◌, ◌≤◌, ◌<◌, Bool, true, false, cond, not, ◌&&◌, ◌||◌, List, [], ◌∷◌, ◌++◌, ◌≡◌, ltb, eqb, length, take, get_or, Option, Some, None, Result, Ok, Err}
+use Rattle.std.specs.Prelude.{ℕ, zero, suc, ◌+◌, ◌^◌, ◌≤◌, ◌<◌, Bool, true, false, cond, not, ◌&&◌, ◌||◌, List, [], ◌∷◌, ◌++◌, ◌≡◌, ltb, eqb, length, take, get_or, bit_and, if◌then◌else◌, Option, Some, None, Result, Ok, Err}
 use Rattle.std.proofs.Math.Option as defined
 use Rattle.std.proofs.Math.Option.{some, none}
 use Rattle.record.specs.declared.Record.{Record}
 use Rattle.record.specs.declared.kind.Kind.{Kind}
 use Rattle.record.specs.declared.kind.Kind.TheVariants.{Message, Union, Newtype, Alias, Constant, Ambiguous, Tombstone, Variant}
-use Rattle.record.specs.Kind.{code_of}
+use Rattle.record.specs.Kind.{code_of, is_declaration_kind}
 use Rattle.record.specs.declared.refusal.Cause as code_cause
 use Rattle.record.specs.declared.refusal.Cause.TheVariants as code
 use Rattle.record.specs.declared.refusal.Refusal as answered
 use Rattle.book.specs.declared.shape.Group.{Group}
 use Rattle.book.specs.declared.children.Tree.{Tree}
-use Rattle.book.specs.declared.follow.Place as code_place
+use Rattle.book.specs.declared.follow.Standing as code_standing
+use Rattle.book.specs.declared.follow.TombstoneOf.{TombstoneOf}
+use Rattle.book.specs.declared.follow.TombstoneOf.TheVariants as tombstones
+use Rattle.book.specs.declared.names.NameSet.{NameSet}
+use Rattle.book.specs.declared.names.NameSet.TheVariants as sets
 use Rattle.book.specs.declared.scan.Scan.{Scan}
 use Rattle.book.specs.Lists.{any, find}
 use Rattle.book.specs.Shape.{Child, is_of}
@@ -94,17 +98,23 @@ set_bit (suc s) = 2 ^ s
 
 -- a byte has the bit of a set of names, counted from 0
 abbrev pub has_bit : ℕ → ℕ → Bool
-has_bit s x = eqb (x / 2 ^ s % 2) 1
+has_bit s x = not (eqb (bit_and x (2 ^ s)) 0)
 
--- the bit of the set that records of a kind declare in
-abbrev pub bit_of : Kind → ℕ
-bit_of Message = 1
-bit_of Union = 1
-bit_of Newtype = 1
-bit_of Alias = 1
-bit_of Constant = 2
-bit_of Ambiguous = 4
-bit_of _ = 0
+-- the set that records of a kind declare in
+abbrev pub set_of : Kind → Option NameSet
+set_of Message = Some sets.Types
+set_of Union = Some sets.Types
+set_of Newtype = Some sets.Types
+set_of Alias = Some sets.Types
+set_of Constant = Some sets.Constants
+set_of Ambiguous = Some sets.Ambiguous
+set_of _ = None
+
+-- its bit
+abbrev pub bit_of : NameSet → ℕ
+bit_of sets.Types = 1
+bit_of sets.Constants = 2
+bit_of sets.Ambiguous = 4
 
 -- names: those declared by the records before n, each with a bit for each of the three sets
 pub record Names (rs : List Record) (n : ℕ) (names : List ℕ) : Type 0 where
@@ -119,7 +129,7 @@ kind_or_0 none = 0
 kind_or_0 (some r) = r.kind
 
 -- what the follow rule knows, by the numbers of kinds
-pub record Place : Type 0 where
+pub record Standing : Type 0 where
   pub before : ℕ
   pub declaration : ℕ
   pub variant : Bool
@@ -129,8 +139,8 @@ abbrev pub kind_number : Option Kind → ℕ
 kind_number None = 0
 kind_number (Some k) = code_of k
 
-abbrev pub place_of : code_place.Place → Place
-place_of p = record { before = kind_number p.before; declaration = kind_number p.declaration; variant = p.variant }
+abbrev pub standing_of : code_standing.Standing → Standing
+standing_of p = record { before = kind_number p.before; declaration = kind_number p.declaration; variant = p.variant }
 
 -- fields go under a message, and under a union with an open variant
 abbrev pub takes_fields : Option Kind → Bool → Bool
@@ -142,30 +152,22 @@ abbrev pub is_union : Option Kind → Bool
 is_union (Some Union) = true
 is_union _ = false
 
+-- whose a tombstone is, by its sub
+abbrev pub tombstone_of : ℕ → TombstoneOf
+tombstone_of sub = if eqb sub 0 then tombstones.Fields else (if eqb sub 1 then tombstones.Union else tombstones.Neither)
+
 -- the latest declaration behind a record of a kind, by its number
 abbrev pub declaration_behind : Kind → ℕ → ℕ
-declaration_behind Message d = 20
-declaration_behind Union d = 21
-declaration_behind Newtype d = 22
-declaration_behind Alias d = 23
-declaration_behind Constant d = 24
-declaration_behind Ambiguous d = 25
-declaration_behind _ d = d
+declaration_behind kind d = if is_declaration_kind kind then code_of kind else d
 
 -- whether a variant is open behind a record of a kind and with a sub, and was before it
 abbrev pub variant_behind : Kind → ℕ → Bool → Bool
-variant_behind Message sub variant = false
-variant_behind Union sub variant = false
-variant_behind Newtype sub variant = false
-variant_behind Alias sub variant = false
-variant_behind Constant sub variant = false
-variant_behind Ambiguous sub variant = false
 variant_behind Variant sub variant = true
 variant_behind Tombstone sub variant = not (eqb sub 1) && variant
-variant_behind _ sub variant = variant
+variant_behind kind sub variant = not (is_declaration_kind kind) && variant
 
--- place: of the records before that the follow rule looks at, latest first
-pub record Placed (bs : List Record) (p : Place) : Type 0 where
+-- standing: of the records before that the follow rule looks at, latest first
+pub record Placed (bs : List Record) (p : Standing) : Type 0 where
   pub before_is : p.before ≡ kind_or_0 (find (λ r. true) bs)
   pub declaration_is : p.declaration ≡ kind_or_0 (find is_declaration bs)
   pub variant_is : p.variant ≡ variant_open bs
@@ -177,9 +179,9 @@ pub record Placed (bs : List Record) (p : Place) : Type 0 where
 abbrev pub following : Record → List Record → List Record
 following r bs = cond (ltb 16 r.kind) (r ∷ bs) bs
 
--- a field, or a tombstone that is not the union's own, needs a message, or a union with an open variant; a variant, or a
--- tombstone of the union itself, needs a union
-abbrev pub has_room : Record → Place → Bool
+-- a field, or a tombstone that is not the union's own, needs a message, or a union with an open variant; a variant, or
+-- a tombstone of the union itself, needs a union
+abbrev pub has_room : Record → Standing → Bool
 has_room r p =
     (not (is_kind 31 r || is_kind 32 r && eqb r.sub 0) || (eqb p.declaration 20 || eqb p.declaration 21 && p.variant))
     && (not (is_union_tombstone r || is_kind 33 r) || eqb p.declaration 21)
@@ -197,7 +199,7 @@ pub record Declared (rs : List Record) (n : ℕ) (result : Result Unit answered.
 pub record Known (book : List ℕ) (n : ℕ) (s : Scan) : Type 0 where
   pub trees_are : Trees (records book) n [] s.trees
   pub names_are : Names (records book) n s.names
-  pub placed : Placed (before (records book) n) (place_of s.place)
+  pub placed : Placed (before (records book) n) (standing_of s.standing)
 
 -- record n of the book, which is r, is about to be looked at
 pub record Ready (book : List ℕ) (n : ℕ) (r : Record) (s : Scan) : Type 0 where

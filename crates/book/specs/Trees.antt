@@ -18,8 +18,8 @@ pub record IsChild (rs : List Record) (n : ℕ) (c : Child) : Type 0 where
   pub of_group : is_of c.group (record_of rs c.number) ≡ true
   pub unused : used_before rs n c.number ≡ false
 
--- record n is inside the rules of causes 4 to 8: shapes, names below 4,096, children, the follow rule, names declared once, and trees of
--- at most 64 levels
+-- record n is inside the rules of causes 4 to 8: shapes, names below 4,096, children, the follow rule, names declared
+-- once, and trees of at most 64 levels
 pub record IsRecord (rs : List Record) (n : ℕ) : Type 0 where
   pub shaped : well_shaped (record_of rs n) ≡ true
   pub named : All (λ x. x < 4096) (names (record_of rs n))
@@ -36,7 +36,7 @@ pub record IsRecord (rs : List Record) (n : ℕ) : Type 0 where
 abbrev pub WellFormed : List Record → Type 0
 WellFormed rs = (n : ℕ) → n < length rs → IsRecord rs n
 
--- record n stands where document 01 says, and all of it inside the book
+-- record n stands at the place of its number, and all of it inside the book
 pub record InRange (book : List ℕ) (n : ℕ) : Type 0 where
   pub there : record_of (records book) n ≡ record_at book n
   pub inside : 512 * (n / 21) + 4 + 24 * (n % 21) + 24 ≤ length book

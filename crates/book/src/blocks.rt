@@ -2,24 +2,19 @@
 
 ghost use Rattle.std.specs.Prelude.{◌≡◌, cond, not, ◌&&◌, ◌-◌, ◌+◌, ◌*◌, ◌≤◌, ◌<◌, eqb, leb, ltb, ◌==◌, take, drop, length};
 ghost use Rattle.std.specs.List.{list_all};
-ghost use mathlib.Core.List.{flat_map};
-ghost use Rattle.book.specs.Lists.{any, find, up_to};
-ghost use Rattle.book.specs.Blocks.{blocks, length_fault, block_fault, record_count, wildcards};
-ghost use Rattle.book.specs.Refusal.{at_block, holds};
-ghost use Rattle.book.specs.Answer.{outcome};
+ghost use Rattle.book.specs.Lists.{any};
+ghost use Rattle.book.specs.Blocks.{blocks, length_fault};
 
+use crate::BLOCKS;
 use record::refusal::{Cause, Refusal};
 use record::{BLOCK_BYTES, BLOCK_RECORDS, HEADER_BYTES, RECORD_BYTES, bytes, check};
-
-// The most blocks.
-const BLOCKS: usize = 64;
 
 // Where the two zero bytes before the check end.
 const CHECK_AT: usize = 510;
 
-/// Cause 1: the length of the book.
+// Whether no book has such a length.
 #[tactic(auto, unfolding(crate::specs::Blocks::length_fault))]
-pub(crate) fn length_fault(book: &[u8]) -> bool
+fn length_fault(book: &[u8]) -> bool
     ensures { result ≡ length_fault book.now }
 {
     book.len() == 0 || BLOCKS * BLOCK_BYTES < book.len() || book.len() % BLOCK_BYTES != 0
@@ -30,9 +25,9 @@ fn count_holds(count: u8, last: bool) -> bool
     ensures { result ≡ cond last (leb 1 count && leb count 21) (eqb count 21) }
 {
     if last {
-        1 <= count && count as u16 <= BLOCK_RECORDS
+        1 <= count && u16::from(count) <= BLOCK_RECORDS
     } else {
-        count as u16 == BLOCK_RECORDS
+        u16::from(count) == BLOCK_RECORDS
     }
 }
 
@@ -43,82 +38,109 @@ fn byte3_holds(byte: u8, k: u16) -> bool
     if k == 0 { byte < 2 } else { byte == 0 }
 }
 
-// Whether some bytes are all zero.
-fn are_zero(bytes: &[u8]) -> bool
-    ensures { result ≡ list_all (λ x. x == 0) bytes.now }
-{
-    bytes.iter().all(|byte| *byte == 0)
-}
-
 // Whether the bytes behind so many records of a block, up to its check, are zero.
 fn rest_holds(block: &[u8], count: u8) -> bool
     requires { (512 ≤ length block.now) × (count ≤ 21) }
     ensures { result ≡ not (any (λ x. not (eqb x 0)) (take (510 - (4 + 24 * count)) (drop (4 + 24 * count) block.now))) }
 {
-    are_zero(&block[HEADER_BYTES + RECORD_BYTES * count as usize..CHECK_AT])
+    bytes::are_zero(&block[HEADER_BYTES + RECORD_BYTES * usize::from(count)..CHECK_AT])
 }
 
-// Whether block k of n keeps the rules other than its check.
-#[tactic(auto, unfolding(crate::specs::Blocks::block_fault))]
-fn block_holds(book: &[u8], k: u16, n: u16) -> bool
-    requires { (n ≡ blocks book.now) × (n ≤ 64) × (k < n) }
-    ensures { block_fault book.now k ≡ not result }
-{
-    let block = bytes::from(book, BLOCK_BYTES * (k as usize));
-    let count = block[2];
-    bytes::two(block) == k
-        && count_holds(count, k + 1 == n)
-        && byte3_holds(block[3], k)
-        && rest_holds(block, count)
+/// The blocks of a book that has a right length.
+#[derive(Clone, Copy)]
+pub(crate) struct Blocks<'a> {
+    bytes: &'a [u8],
+    count: u16,
+    ghost counted: { count ≡ blocks bytes.now },
+    ghost some: { 0 < count },
+    ghost few: { count ≤ 64 },
 }
 
-// Causes 2 and 3 at block k of n.
-fn check_block(book: &[u8], k: u16, n: u16) -> Result<(), Refusal>
-    requires { (n ≡ blocks book.now) × (n ≤ 64) × (k < n) }
-    ensures { result ≡ outcome (find (holds book.now) (at_block k)) }
-{
-    if !check::check_holds(book, k) {
-        return Err(Refusal {
-            cause: Cause::Check,
-            place: k,
-        });
+impl<'a> Blocks<'a> {
+    ghost use Rattle.std.specs.Prelude.{true, false, IfOk, IfErr};
+    ghost use mathlib.Core.List.{flat_map};
+    ghost use Rattle.record.specs.declared.refusal.Cause.TheVariants.{BookLength};
+    ghost use Rattle.book.specs.Lists.{find, up_to};
+    ghost use Rattle.book.specs.Blocks.{block_fault, record_count, wildcards};
+    ghost use Rattle.book.specs.Refusal.{at_block, holds};
+    ghost use Rattle.book.specs.Answer.{outcome};
+
+    /// The blocks of a book, or cause 1: its length.
+    pub(crate) fn of(bytes: &'a [u8]) -> Result<Blocks<'a>, Refusal>
+        ensures right { IfOk result (λ b. (b.bytes.now ≡ bytes.entry.now) × (length_fault bytes.entry.now ≡ false)) }
+        ensures wrong { IfErr result (λ e. (length_fault bytes.entry.now ≡ true) × (e ≡ record { cause = BookLength; place = 0 })) }
+    {
+        if length_fault(bytes) {
+            return Err(Refusal {
+                cause: Cause::BookLength,
+                place: 0,
+            });
+        }
+        Ok(Blocks {
+            bytes,
+            count: (bytes.len() / BLOCK_BYTES) as u16,
+        })
     }
-    if !block_holds(book, k, n) {
-        return Err(Refusal {
-            cause: Cause::Block,
-            place: k,
-        });
+
+    // Whether block k keeps the rules other than its check.
+    #[tactic(auto, unfolding(crate::specs::Blocks::block_fault))]
+    fn block_holds(&self, k: u16) -> bool
+        requires { k < self.now.count }
+        ensures { block_fault self.now.bytes.now k ≡ not result }
+    {
+        let block = bytes::from(self.bytes, BLOCK_BYTES * usize::from(k));
+        let count = block[2];
+        bytes::two(block) == k
+            && count_holds(count, k + 1 == self.count)
+            && byte3_holds(block[3], k)
+            && rest_holds(block, count)
     }
-    Ok(())
-}
 
-/// Causes 2 and 3 in a book of n blocks.
-pub(crate) fn check_blocks(book: &[u8], n: u16) -> Result<(), Refusal>
-    requires { (n ≡ blocks book.now) × (n ≤ 64) }
-    ensures { result ≡ outcome (find (holds book.now) (flat_map at_block (up_to n))) }
-{
-    for k in 0..n {
-        check_block(book, k, n)?;
+    // Causes 2 and 3 at block k.
+    fn check_block(&self, k: u16) -> Result<(), Refusal>
+        requires { k < self.now.count }
+        ensures { result ≡ outcome (find (holds self.now.bytes.now) (at_block k)) }
+    {
+        if !check::check_holds(self.bytes, k) {
+            return Err(Refusal {
+                cause: Cause::Check,
+                place: k,
+            });
+        }
+        if !self.block_holds(k) {
+            return Err(Refusal {
+                cause: Cause::Block,
+                place: k,
+            });
+        }
+        Ok(())
     }
-    Ok(())
-}
 
-/// The number of records in a book of n blocks: every block but the last has as many as fit.
-#[tactic(auto, unfolding(crate::specs::Blocks::record_count))]
-pub(crate) fn record_count(book: &[u8], n: u16) -> u16
-    requires { (n ≡ blocks book.now) × (0 < n) × (n ≤ 64) }
-    ensures { result ≡ record_count book.now }
-{
-    let last = n - 1;
-    let block = bytes::from(book, BLOCK_BYTES * (last as usize));
-    BLOCK_RECORDS * last + block[2] as u16
-}
+    /// Causes 2 and 3.
+    pub(crate) fn check(&self) -> Result<(), Refusal>
+        ensures { result ≡ outcome (find (holds self.now.bytes.now) (flat_map at_block (up_to (blocks self.now.bytes.now)))) }
+    {
+        for k in 0..self.count {
+            self.check_block(k)?;
+        }
+        Ok(())
+    }
 
-/// Whether byte 3 of a book tells of wildcard imports.
-#[tactic(auto, unfolding(crate::specs::Blocks::wildcards))]
-pub(crate) fn wildcards(book: &[u8]) -> bool
-    requires { 3 < length book.now }
-    ensures { result ≡ wildcards book.now }
-{
-    book[3] == 1
+    /// The number of records: every block but the last has as many as fit.
+    #[tactic(auto, unfolding(crate::specs::Blocks::record_count))]
+    pub(crate) fn record_count(&self) -> u16
+        ensures { result ≡ record_count self.now.bytes.now }
+    {
+        let last = self.count - 1;
+        let block = bytes::from(self.bytes, BLOCK_BYTES * usize::from(last));
+        BLOCK_RECORDS * last + u16::from(block[2])
+    }
+
+    /// Whether byte 3 of the book tells of wildcard imports.
+    #[tactic(auto, unfolding(crate::specs::Blocks::wildcards))]
+    pub(crate) fn wildcards(&self) -> bool
+        ensures { result ≡ wildcards self.now.bytes.now }
+    {
+        self.bytes[3] == 1
+    }
 }

@@ -7,12 +7,9 @@ ghost use Rattle.book.specs.Shape.{Child, child_in, children_by};
 ghost use Rattle.book.specs.Rows.{field_from, row_from};
 ghost use Rattle.book.specs.Tables.{Trees, Taken, grown};
 
-use crate::shape::{Field, Group, Row};
-use record::Record;
+use crate::RECORDS;
+use crate::shape::{Field, Group, Shaped};
 use record::refusal::{Cause, Refusal};
-
-/// A book has at most so many records.
-pub const RECORDS: usize = 1344;
 
 // A tree has at most so many levels.
 const LEVELS: u8 = 64;
@@ -24,8 +21,8 @@ pub struct Tree {
     pub levels: u8,
 }
 
-// The levels of the tree at the child that a field of record n with the value x names, 0 where it names none. The tree is
-// taken away, so that no other field finds it.
+// The levels of the tree at the child that a field of record n with the value x names, 0 where it names none. The tree
+// is taken away, so that no other field finds it. `Option::take` was tried, and took up to three instructions more.
 fn take_child(
     n: u16,
     field: Field,
@@ -40,8 +37,8 @@ fn take_child(
         return Ok(0);
     };
     if x < n {
-        let tree = trees[x as usize];
-        trees[x as usize] = None;
+        let tree = trees[usize::from(x)];
+        trees[usize::from(x)] = None;
         if let Some(tree) = tree {
             if tree.group == group {
                 return Ok(tree.levels);
@@ -54,20 +51,21 @@ fn take_child(
     })
 }
 
-/// The levels of the deepest tree at a child of record n, 0 where it has none. The trees are taken away.
+/// The levels of the deepest tree at a child of record n, which is shaped so, 0 where it has none. The trees are taken
+/// away.
 pub(crate) fn take_children(
     n: u16,
-    r: &Record,
-    row: &Row,
+    shaped: &Shaped<'_>,
     trees: &mut [Option<Tree>; RECORDS],
 ) -> Result<u8, Refusal>
     requires { n ≤ 1344 }
     ensures { (rs : List Record) → Trees rs n [] trees.old →
-        Taken rs n [] (children_by r.now (some (row_from row.now))) result trees.new }
+        Taken rs n [] (children_by shaped.now.record.now (some (row_from shaped.now.row.now))) result trees.new }
 {
-    let a = take_child(n, row.a, r.a, trees)?;
-    let b = take_child(n, row.b, r.b, trees)?;
-    let c = take_child(n, row.c, r.c, trees)?;
+    let Shaped { record, row } = *shaped;
+    let a = take_child(n, row.a, record.a, trees)?;
+    let b = take_child(n, row.b, record.b, trees)?;
+    let c = take_child(n, row.c, record.c, trees)?;
     Ok(a.max(b).max(c))
 }
 

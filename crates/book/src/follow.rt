@@ -3,10 +3,10 @@
 ghost use Rattle.std.specs.Prelude.{◌≡◌, true, List, []};
 ghost use Rattle.record.specs.Kind.{code_of};
 ghost use Rattle.book.specs.Follow.{follow_of};
-ghost use Rattle.book.specs.Tables.{kind_number};
+ghost use Rattle.book.specs.Tables.{kind_number, tombstone_of};
 
 use crate::follow_table::FOLLOW;
-use crate::shape::{KINDS, Row};
+use crate::shape::Shaped;
 use record::Record;
 use record::kind::Kind;
 use record::refusal::{Cause, Refusal};
@@ -14,18 +14,39 @@ use record::refusal::{Cause, Refusal};
 /// What the follow rule knows of the records before: the kinds of the last declaration or item and of the latest
 /// declaration, and whether fields and tombstones may stand under a variant of it.
 #[derive(Clone, Copy)]
-pub struct Place {
+pub struct Standing {
     pub before: Option<Kind>,
     pub declaration: Option<Kind>,
     pub variant: bool,
 }
 
-// The number of a kind, 0 for none.
-fn number(kind: Option<Kind>) -> usize
+/// Whose a tombstone is.
+#[derive(Clone, Copy)]
+pub enum TombstoneOf {
+    Fields,
+    Union,
+    Neither,
+}
+
+impl From<u8> for TombstoneOf {
+    ghost from_gives = { λ sub whose. whose ≡ tombstone_of sub };
+
+    /// Whose it is by the sub of its record: of a message or a variant, or of the union itself.
+    fn from(sub: u8) -> Self {
+        match sub {
+            0 => TombstoneOf::Fields,
+            1 => TombstoneOf::Union,
+            _ => TombstoneOf::Neither,
+        }
+    }
+}
+
+// The row of the follow table for a kind before, of which 0 is for none.
+fn row_behind(kind: Option<Kind>) -> usize
     ensures { result ≡ kind_number kind }
 {
     match kind {
-        Some(kind) => kind.code() as usize,
+        Some(kind) => usize::from(kind.code()),
         None => 0,
     }
 }
@@ -34,29 +55,26 @@ fn number(kind: Option<Kind>) -> usize
 fn follows(before: Option<Kind>, kind: Kind) -> bool
     ensures { result ≡ follow_of (kind_number before) (code_of kind) }
 {
-    let row = number(before);
-    let column = kind.code() as usize;
-    if KINDS <= row {
+    let Some(row) = FOLLOW.get(row_behind(before)) else {
         return false;
-    }
-    if KINDS <= column {
+    };
+    let Some(may) = row.get(usize::from(kind.code())) else {
         return false;
-    }
-    FOLLOW[row][column]
+    };
+    *may
 }
 
-impl Place {
+impl Standing {
     ghost use Rattle.record.specs.declared.Record.{Record};
     ghost use Rattle.record.specs.Kind.{code_of};
-    ghost use Rattle.book.specs.Rows.{IsRow};
     ghost use Rattle.book.specs.Faults.{may_follow};
-    ghost use Rattle.book.specs.Tables.{Placed, unless, following, has_room, takes_fields, is_union, declaration_behind, variant_behind, kind_number, place_of};
+    ghost use Rattle.book.specs.Tables.{Placed, unless, following, has_room, takes_fields, is_union, declaration_behind, variant_behind, kind_number, standing_of};
 
     /// Nothing stands before the first record.
-    pub(crate) fn start() -> Place
-        ensures { Placed [] (place_of result) }
+    pub(crate) fn start() -> Standing
+        ensures { Placed [] (standing_of result) }
     {
-        Place {
+        Standing {
             before: None,
             declaration: None,
             variant: false,
@@ -84,14 +102,14 @@ impl Place {
     // Whether the declaration that is meant has room for a record of a kind.
     fn has_room(&self, r: &Record, kind: Kind) -> bool
         requires { r.now.kind ≡ code_of kind }
-        ensures { result ≡ has_room r.now (place_of self.now) }
+        ensures { result ≡ has_room r.now (standing_of self.now) }
     {
         match kind {
             Kind::Field => self.takes_fields(),
-            Kind::Tombstone => match r.sub {
-                0 => self.takes_fields(),
-                1 => self.is_union(),
-                _ => true,
+            Kind::Tombstone => match TombstoneOf::from(r.sub) {
+                TombstoneOf::Fields => self.takes_fields(),
+                TombstoneOf::Union => self.is_union(),
+                TombstoneOf::Neither => true,
             },
             Kind::Variant => self.is_union(),
             _ => true,
@@ -99,19 +117,19 @@ impl Place {
     }
 
     // Whether a record may stand where it stands.
-    fn may_follow(&self, r: &Record, row: &Row) -> bool
-        requires { IsRow r.now row.now }
-        ensures { (bs : List Record) → Placed bs (place_of self.now) → result ≡ may_follow r.now bs }
+    fn may_follow(&self, shaped: &Shaped<'_>) -> bool
+        ensures { (bs : List Record) → Placed bs (standing_of self.now) → result ≡ may_follow shaped.now.record.now bs }
     {
-        !row.group.is_outside() || follows(self.before, row.kind) && self.has_room(r, row.kind)
+        let Shaped { record, row } = *shaped;
+        !row.group.is_outside() || follows(self.before, row.kind) && self.has_room(record, row.kind)
     }
 
-    /// Cause 6 at record n.
-    pub(crate) fn check(&self, n: u16, r: &Record, row: &Row) -> Result<(), Refusal>
-        requires { IsRow r.now row.now }
-        ensures { (bs : List Record) → Placed bs (place_of self.now) → result ≡ unless (may_follow r.now bs) Cause.Follow n }
+    /// Cause 6 at record n, which is shaped so.
+    pub(crate) fn check(&self, n: u16, shaped: &Shaped<'_>) -> Result<(), Refusal>
+        ensures { (bs : List Record) → Placed bs (standing_of self.now) →
+            result ≡ unless (may_follow shaped.now.record.now bs) Cause.Follow n }
     {
-        if self.may_follow(r, row) {
+        if self.may_follow(shaped) {
             return Ok(());
         }
         Err(Refusal {
@@ -124,14 +142,10 @@ impl Place {
     fn declaration_behind(&self, kind: Kind) -> Option<Kind>
         ensures { kind_number result ≡ declaration_behind kind (kind_number self.now.declaration) }
     {
-        match kind {
-            Kind::Message
-            | Kind::Union
-            | Kind::Newtype
-            | Kind::Alias
-            | Kind::Constant
-            | Kind::Ambiguous => Some(kind),
-            _ => self.declaration,
+        if kind.is_declaration() {
+            Some(kind)
+        } else {
+            self.declaration
         }
     }
 
@@ -140,31 +154,27 @@ impl Place {
         ensures { result ≡ variant_behind kind r.now.sub self.now.variant }
     {
         match kind {
-            Kind::Message
-            | Kind::Union
-            | Kind::Newtype
-            | Kind::Alias
-            | Kind::Constant
-            | Kind::Ambiguous => false,
             Kind::Variant => true,
-            Kind::Tombstone => r.sub != 1 && self.variant,
-            _ => self.variant,
+            Kind::Tombstone => {
+                !matches!(TombstoneOf::from(r.sub), TombstoneOf::Union) && self.variant
+            }
+            _ => !kind.is_declaration() && self.variant,
         }
     }
 
-    /// The place behind a record.
-    pub(crate) fn next(&self, r: &Record, row: &Row) -> Place
-        requires { IsRow r.now row.now }
-        ensures { (bs : List Record) → Placed bs (place_of self.now) → may_follow r.now bs ≡ true →
-            Placed (following r.now bs) (place_of result) }
+    /// What is known behind a record that is shaped so.
+    pub(crate) fn next(&self, shaped: &Shaped<'_>) -> Standing
+        ensures { (bs : List Record) → Placed bs (standing_of self.now) → may_follow shaped.now.record.now bs ≡ true →
+            Placed (following shaped.now.record.now bs) (standing_of result) }
     {
+        let Shaped { record, row } = *shaped;
         if !row.group.is_outside() {
             return *self;
         }
-        Place {
+        Standing {
             before: Some(row.kind),
             declaration: self.declaration_behind(row.kind),
-            variant: self.is_open_behind(r, row.kind),
+            variant: self.is_open_behind(record, row.kind),
         }
     }
 }

@@ -2,13 +2,13 @@
 
 use crate::shape::KINDS;
 
-// Short for a table of many.
+// `T` and `F` are short, so that a row of the table is one line.
 const T: bool = true;
 
 const F: bool = false;
 
-/// Rows by the kind before, columns by the kind at hand: whether the one may stand behind the other. Row 0 stands for no
-/// record before; kinds 1 to 16 are passed over and do not come here. Ten columns a group.
+/// Rows by the kind before, columns by the kind at hand: whether the one may stand behind the other. Row 0 stands for
+/// no record before; kinds 1 to 16 are passed over and do not come here. Ten columns a group.
 #[rattlefmt::skip]
 pub const FOLLOW: [[bool; KINDS]; KINDS] = [
     [F,F,F,F,F,F,F,F,F,F, F,F,F,F,F,F,F,F,F,F, T,T,T,T,T,T,F,F,F,F, F,F,F,F,F,F,F], // 0 nothing

@@ -6,6 +6,7 @@ ghost use Rattle.std.specs.Prelude.{◌≡◌};
 ghost use Rattle.book.specs.Answer.{read_book, refusal_word};
 
 mod blocks;
+pub mod by_name;
 mod children;
 mod follow;
 mod follow_table;
@@ -17,6 +18,15 @@ mod shape;
 
 pub use readable::Book;
 
+/// A book has at most so many blocks.
+pub const BLOCKS: usize = 64;
+
+/// A book has at most so many records.
+pub const RECORDS: usize = 1344;
+
+/// Names are numbers below this.
+pub const NAMES: usize = 4096;
+
 /// Reads a book for a caller in Rust or C: 0 where it is accepted, else the number of the cause times 65,536, and the
 /// place. `book_c` exports it.
 pub fn book_refusal(book: &[u8]) -> u32
@@ -24,6 +34,6 @@ pub fn book_refusal(book: &[u8]) -> u32
 {
     match Book::read(book) {
         Ok(_) => 0,
-        Err(refusal) => 0x1_0000 * (refusal.cause.number() as u32) + refusal.place as u32,
+        Err(refusal) => 0x1_0000 * u32::from(refusal.cause.number()) + u32::from(refusal.place),
     }
 }

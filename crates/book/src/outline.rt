@@ -1,4 +1,5 @@
-//! Which records of a book are declarations, and which are declarations or items: noted once, in one pass over the kinds.
+//! Which records of a book are declarations, and which are declarations or items: noted once, in one pass over the
+//! kinds.
 
 ghost use Rattle.std.specs.Prelude.{◌≡◌, ◌||◌, cond, ◌+◌, ◌≤◌, ◌<◌, [], ◌∷◌, ◌++◌, length, take};
 ghost use Rattle.book.specs.Noted.{noted_of, declares, is_item};
@@ -7,8 +8,8 @@ use crate::readable::Book;
 use record::kind::{Kind, UnknownKind};
 use std::marker::Model;
 
-/// Two lists of record numbers, each in book order, in arrays with their lengths, since nothing is allocated. A book has at
-/// most `R` records.
+/// Two lists of record numbers, each in book order. A book has at most `R` records. They are arrays with their lengths:
+/// vectors of a fixed capacity were tried, and an ordinary book of 21 records took 141 instructions more.
 #[derive(Drop)]
 pub struct Outline<const R: usize> {
     declarations: [u16; R],
@@ -32,35 +33,14 @@ impl<const R: usize> Model for Outline<R> {
 fn declares(kind: Result<Kind, UnknownKind>) -> bool
     ensures { result ≡ declares kind }
 {
-    matches!(
-        kind,
-        Ok(
-            Kind::Message
-                | Kind::Union
-                | Kind::Newtype
-                | Kind::Alias
-                | Kind::Constant
-                | Kind::Ambiguous
-        )
-    )
+    kind.is_ok_and(|kind| kind.is_declaration())
 }
 
 // Whether a kind is that of an item.
 fn is_item(kind: Result<Kind, UnknownKind>) -> bool
     ensures { result ≡ is_item kind }
 {
-    matches!(
-        kind,
-        Ok(
-            Kind::TypeParameter
-                | Kind::Field
-                | Kind::Tombstone
-                | Kind::Variant
-                | Kind::Annotation
-                | Kind::Argument
-                | Kind::TombstoneArgument
-        )
-    )
+    kind.is_ok_and(|kind| kind.is_item())
 }
 
 // Whether a kind is that of a declaration or an item.
@@ -70,7 +50,8 @@ fn is_outside(kind: Result<Kind, UnknownKind>) -> bool
     declares(kind) || is_item(kind)
 }
 
-// Puts a number behind so many others, if it is one of those looked for; how many there are then.
+// Puts a number behind so many others, if it is one of those looked for; how many there are then. The test stands in
+// here, so that the loop over the records says of both lists at once what is in them.
 fn note(list: &mut [u16], count: usize, n: u16, found: bool) -> usize
     requires { count < length list.old }
     ensures list { take result list.new ≡ take count list.old ++ cond found (n ∷ []) [] }

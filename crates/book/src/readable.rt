@@ -6,13 +6,15 @@ ghost use Rattle.book.specs.Trees.{Readable};
 ghost use Rattle.book.specs.Outline.{◌!◌};
 ghost use Rattle.book.specs.Accepted.{book_of, IsRead, Earlier};
 
-use crate::{blocks, scan};
+use crate::blocks::Blocks;
+use crate::scan;
+use record::Record;
 use record::kind::{Kind, UnknownKind};
-use record::refusal::{Cause, Refusal};
-use record::{BLOCK_BYTES, Record};
+use record::refusal::Refusal;
 use std::marker::Model;
 
-/// A book that none of causes 1 to 8 refuses: its bytes, how many records it has, and whether there are wildcard imports.
+/// A book that none of causes 1 to 8 refuses: its bytes, how many records it has, and whether there are wildcard
+/// imports. It is not `Copy`, since a struct that has a lifetime and a model cannot be.
 #[derive(Drop)]
 pub struct Book<'a> {
     bytes: &'a [u8],
@@ -37,20 +39,14 @@ impl<'a> Book<'a> {
         ensures answer { result ≡ book_of bytes.entry.now }
         ensures readable { IfOk result (λ _. Readable bytes.entry.now) }
     {
-        if blocks::length_fault(bytes) {
-            return Err(Refusal {
-                cause: Cause::BookLength,
-                place: 0,
-            });
-        }
-        let n = (bytes.len() / BLOCK_BYTES) as u16;
-        blocks::check_blocks(bytes, n)?;
-        let count = blocks::record_count(bytes, n);
+        let blocks = Blocks::of(bytes)?;
+        blocks.check()?;
+        let count = blocks.record_count();
         scan::check_records(bytes, count)?;
         Ok(Book {
             bytes,
             count,
-            wildcards: blocks::wildcards(bytes),
+            wildcards: blocks.wildcards(),
         })
     }
 

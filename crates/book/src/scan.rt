@@ -7,21 +7,20 @@ ghost use Rattle.book.specs.Refusal.{at_record, holds};
 ghost use Rattle.book.specs.Answer.{outcome};
 ghost use Rattle.book.specs.Tables.{Ready, Looked, Counted};
 
-use crate::children::{RECORDS, Tree};
-use crate::follow::Place;
-use crate::names::NAMES;
+use crate::children::Tree;
+use crate::follow::Standing;
 use crate::shape::Group;
-use crate::{children, names, shape};
+use crate::{NAMES, RECORDS, children, names, shape};
 use record::Record;
 use record::refusal::Refusal;
 
-/// What is known of the records before the one at hand: their trees, none where a record is a child already; the names that
-/// they declare; and what the follow rule asks for.
+/// What is known of the records before the one at hand: their trees, none where a record is a child already; the names
+/// that they declare; and what the follow rule asks for.
 #[derive(Drop)]
 pub struct Scan {
     pub trees: [Option<Tree>; RECORDS],
     pub names: [u8; NAMES],
-    pub place: Place,
+    pub standing: Standing,
 }
 
 impl Scan {
@@ -34,19 +33,19 @@ impl Scan {
     {
         // A primitive type, as most types are: it names no child and no name, and stands anywhere.
         if shape::is_primitive(r) {
-            self.trees[n as usize] = Some(Tree {
+            self.trees[usize::from(n)] = Some(Tree {
                 group: Group::Type,
                 levels: 1,
             });
             return Ok(());
         }
-        let row = shape::shape_of(n, r)?;
-        let levels = children::take_children(n, r, row, &mut self.trees)?;
-        self.place.check(n, r, row)?;
-        names::declare(n, r, row.kind, &mut self.names)?;
-        let tree = children::grow(n, row.group, levels)?;
-        self.trees[n as usize] = Some(tree);
-        self.place = self.place.next(r, row);
+        let shaped = shape::shape_of(n, r)?;
+        let levels = children::take_children(n, &shaped, &mut self.trees)?;
+        self.standing.check(n, &shaped)?;
+        names::declare(n, &shaped, &mut self.names)?;
+        let tree = children::grow(n, shaped.row.group, levels)?;
+        self.trees[usize::from(n)] = Some(tree);
+        self.standing = self.standing.next(&shaped);
         Ok(())
     }
 }
@@ -59,7 +58,7 @@ pub(crate) fn check_records(book: &[u8], count: u16) -> Result<(), Refusal>
     let mut scan = Scan {
         trees: [None; RECORDS],
         names: [0; NAMES],
-        place: Place::start(),
+        standing: Standing::start(),
     };
     for n in 0..count {
         scan.check(n, &record::record_at(book, n))?;

@@ -1,17 +1,19 @@
 //! The shapes of records: cause 4, and where the children of a record stand.
 
-ghost use Rattle.std.specs.Prelude.{◌≡◌, find, option_copied, length, drop, ◌≤◌};
+ghost use Rattle.std.specs.Prelude.{◌≡◌, find, option_copied, length, drop, ◌≤◌, false, IfOk, IfErr};
 ghost use Rattle.std.proofs.Math.Option.{some};
+ghost use Rattle.record.specs.declared.refusal.Cause.TheVariants as causes;
 ghost use Rattle.book.specs.Shape.{table, is_row, row_of, allows, fits, child_in};
-ghost use Rattle.book.specs.Rows.{row_from, row_in, field_from, last_in, none_in, children_of, first_row, is_plain, Shaped};
+ghost use Rattle.book.specs.Rows.{row_from, row_in, field_from, last_in, none_in, children_of, first_row, is_plain, IsRow};
 
+use crate::NAMES;
 use Field::{
     Bits, Child, Flag, Free, MaybeChild, MaybeName, MaybeString, Name, Ordinal, String, Unused,
 };
 use Group::{Constant, Constraint, Declaration, Item, Operand, Type};
-use record::Record;
 use record::kind::Kind;
 use record::refusal::{Cause, Refusal};
+use record::{NO_REFERENCE, Record, reference};
 
 /// The groups of kinds.
 #[derive(Clone, Copy, PartialEq, Eq)]
@@ -64,15 +66,24 @@ pub struct Row {
     pub v: Field,
 }
 
-// What stands for no child and for no name.
-const NONE: u16 = 65535;
+/// A record, and its row, inside whose values its fields are. Its number stands beside it, as it does beside each
+/// record.
+#[derive(Clone, Copy)]
+pub(crate) struct Shaped<'a> {
+    pub record: &'a Record,
+    pub row: &'static Row,
+    ghost is_row: { IsRow record.now row.now },
+}
+
+// The last sub of a primitive type.
+const LAST_PRIMITIVE: u8 = 13;
 
 /// Kinds of a book are below this.
 pub const KINDS: usize = 37;
 
 // A row, written short. It is no function, since a constant calls none.
 macro_rules! row {
-    ($group:expr, $kind:expr, $low:literal..=$high:literal, $a:expr, $b:expr, $c:expr, $v:expr) => {
+    ($group:expr, $kind:expr, $low:literal..=$high:expr, $a:expr, $b:expr, $c:expr, $v:expr) => {
         Row {
             group: $group,
             kind: $kind,
@@ -89,7 +100,7 @@ macro_rules! row {
 /// The table of shapes. A kind stands in several rows, one behind the other, where its subs have different fields.
 #[rattlefmt::skip]
 pub const TABLE: [Row; 38] = [
-    row!(Type, Kind::Primitive, 0..=13, Unused, Unused, Unused, Unused),
+    row!(Type, Kind::Primitive, 0..=LAST_PRIMITIVE, Unused, Unused, Unused, Unused),
     row!(Type, Kind::SubByte, 0..=1, Bits, Unused, Unused, Unused),
     row!(Type, Kind::Semantic, 0..=5, Unused, Unused, Unused, Unused),
     row!(Type, Kind::Named, 0..=0, Name, Unused, Unused, Unused),
@@ -129,8 +140,8 @@ pub const TABLE: [Row; 38] = [
     row!(Item, Kind::TombstoneArgument, 0..=2, MaybeString, Unused, Unused, Unused),
 ];
 
-// Where the rows of each kind begin, so that no record is looked for from the first row on; past the last row for what is
-// no kind of a book.
+// Where the rows of each kind begin, so that no record is looked for from the first row on; past the last row for what
+// is no kind of a book.
 #[rattlefmt::skip]
 const FIRST: [u8; KINDS] = [
     38, 0, 1, 2, 3, 4, 5, 6, 9, 10, 11, 13, 14, 15, 17, 18, 19, 38, 38, 38, 24,
@@ -148,8 +159,8 @@ impl Field {
             Unused => 0,
             Flag => 1,
             Bits => 255,
-            Name | MaybeName => 4095,
-            String => 65534,
+            Name | MaybeName => NAMES as u64 - 1,
+            String => u64::from(NO_REFERENCE) - 1,
             Ordinal => 0xFFFF_FFFF,
             MaybeString | Free | Child(_) | MaybeChild(_) => u64::MAX,
         }
@@ -160,7 +171,7 @@ impl Field {
         ensures { result ≡ none_in (field_from self) x }
     {
         match self {
-            MaybeName => x == NONE as u64,
+            MaybeName => x == u64::from(NO_REFERENCE),
             _ => false,
         }
     }
@@ -180,7 +191,7 @@ impl Field {
     {
         match self {
             Child(group) => Some(group),
-            MaybeChild(group) => { if x == NONE { None } else { Some(group) } }
+            MaybeChild(group) => reference(x).map(|_| group),
             Unused | Flag | Bits | Name | MaybeName | String | MaybeString | Ordinal | Free => None,
         }
     }
@@ -189,7 +200,7 @@ impl Field {
 impl Row {
     ghost use Rattle.book.specs.Rows.{row_from};
 
-    // Whether a record is of the row, by its kind and its sub.
+    // Whether a record is of the row, by its kind and its sub. The kind by its code, since that is one comparison.
     fn takes(&self, r: &Record) -> bool
         ensures { result ≡ is_row r.now (row_from self.now) }
     {
@@ -200,9 +211,9 @@ impl Row {
     fn fits(&self, r: &Record) -> bool
         ensures { result ≡ fits r.now (some (row_from self.now)) }
     {
-        self.a.allows(r.a as u64)
-            && self.b.allows(r.b as u64)
-            && self.c.allows(r.c as u64)
+        self.a.allows(u64::from(r.a))
+            && self.b.allows(u64::from(r.b))
+            && self.c.allows(u64::from(r.c))
             && self.v.allows(r.v)
     }
 }
@@ -211,11 +222,9 @@ impl Row {
 fn first_row(kind: u8) -> usize
     ensures { result ≡ first_row kind table }
 {
-    let at = kind as usize;
-    if at < KINDS {
-        FIRST[at] as usize
-    } else {
-        TABLE.len()
+    match FIRST.get(usize::from(kind)) {
+        Some(first) => usize::from(*first),
+        None => TABLE.len(),
     }
 }
 
@@ -241,12 +250,13 @@ fn row_of(r: &Record) -> Option<&'static Row>
     first_of(rows_from(&TABLE, first_row(r.kind)), r)
 }
 
-/// The row of record n, whose fields are all inside their values; or cause 4.
-pub(crate) fn shape_of(n: u16, r: &Record) -> Result<&'static Row, Refusal>
-    ensures { Shaped n r.now result }
+/// Record n with its row, or cause 4.
+pub(crate) fn shape_of(n: u16, r: &Record) -> Result<Shaped<'_>, Refusal>
+    ensures right { IfOk result (λ shaped. shaped.record.now ≡ r.entry.now) }
+    ensures wrong { IfErr result (λ e. (fits r.entry.now (row_of r.entry.now) ≡ false) × (e ≡ record { cause = causes.Shape; place = n })) }
 {
     match row_of(r) {
-        Some(row) if row.fits(r) => Ok(row),
+        Some(row) if row.fits(r) => Ok(Shaped { record: r, row }),
         _ => Err(Refusal {
             cause: Cause::Shape,
             place: n,
@@ -254,9 +264,15 @@ pub(crate) fn shape_of(n: u16, r: &Record) -> Result<&'static Row, Refusal>
     }
 }
 
-/// Whether a record is a primitive type with nothing in its fields: it is well shaped by the first row.
+/// Whether a record is a primitive type with nothing in its fields: it is well shaped by the first row. The kind by its
+/// code, as in `Row::takes`.
 pub(crate) fn is_primitive(r: &Record) -> bool
     ensures { result ≡ is_plain r.now }
 {
-    r.kind == Kind::Primitive.code() && r.sub <= 13 && r.a == 0 && r.b == 0 && r.c == 0 && r.v == 0
+    r.kind == Kind::Primitive.code()
+        && r.sub <= LAST_PRIMITIVE
+        && r.a == 0
+        && r.b == 0
+        && r.c == 0
+        && r.v == 0
 }

@@ -44,8 +44,9 @@ pub undeclared :
 undeclared w t cs F f n e =
     f.other n (λ c r q. true≢false (sym (mem_declares n (reached_declared r) q) ∙ e))
 
--- Constants of cs with a property that what they name has too. Each is declared in ds with the same expression, and what it names and cs does not
--- declare is not declared in ds. Then each that is reached is reached in ds, and worth the same.
+-- Constants of cs with a property that what they name has too. Each is declared in ds with the same expression, and
+-- what it names and cs does not declare is not declared in ds. Then each that is reached is reached in ds, and worth
+-- the same.
 module _
     (w : Way) (t : Table) (cs ds : List Constant) (ones : Distinct ds) (F G : Table) (f : IsFinal w t cs F) (g : IsFinal w t ds G)
     (P : Constant → Type 0)

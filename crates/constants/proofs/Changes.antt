@@ -47,8 +47,8 @@ rings_are_unreached w cs c r ring = ⊎_elim (no_ring w cs r) (λ x. no_ring w c
 pub nothing_on_rings : NothingOnRings
 nothing_on_rings w t cs distinct c z s = rings_are_unreached w cs c ((settles_if w t cs distinct c (some z)).0 s).0
 
--- What a stored constant names has a value in the final table. A declared one is stored itself, unless its value was kept from beforehand; any is, if
--- it had none beforehand.
+-- What a stored constant names has a value in the final table. A declared one is stored itself, unless its value was
+-- kept from beforehand; any is, if it had none beforehand.
 module _ (w : Way) (t : Table) (cs : List Constant) (distinct : Distinct cs) where
   valued :
       (c : Constant) (z : ℤ) → SettlesAs w t cs c (some z) →

@@ -1,11 +1,12 @@
--- Demand 3 of every run of `evaluate_constants` that keeps its promise: from the arrays to the theory of constants, and back.
+-- What is stored of accepted books, wherever it stands; and that constants keep their values in every evaluation over
+-- arrays: from the arrays to the theory of constants, and back.
 -- Assumes nothing.
 use Prim.Native.Nat.{ℕ, zero, suc, ◌<◌}
 use mathlib.Core.Bool.{true, false, false≢true}
 use mathlib.Core.List.Memᴰ
 use mathlib.Core.List.{List, [], ◌∷◌, ◌++◌, map, Memᴰ}
 use mathlib.Core.Logic.Iff
-use mathlib.Core.Logic.{◌↔◌}
+use mathlib.Core.Logic.{◌↔◌, ◌⊎◌}
 use mathlib.Core.Option.{Option, some, none}
 use mathlib.Core.Path.{◌≡◌, refl, sym, ◌∙◌, ap, subst}
 use native.Mathlib.Omega.{arith}
@@ -21,10 +22,11 @@ use Rattle.constants.specs.Eval.{empty}
 use Rattle.constants.specs.Order.{Constant, Settled, each, Reached, outcome}
 use Rattle.constants.specs.OfBook.{constant_at, constants, settled}
 use Rattle.constants.specs.Values.{IsI64}
+use Rattle.constants.specs.Leads.{LiesOnRing, LeadsIntoRing}
 use Rattle.constants.specs.Theory.{Distinct, Stores}
 use Rattle.constants.specs.Changes.{DeclaresAll}
 use Rattle.constants.specs.Evaluated.{filled, place_of, has_value, value_or_0, outcome_over}
-use Rattle.constants.specs.Demand3.{DeclaresAllOf, AddsNoneTo, Evaluation, IsOf, StandsIn, OfEach, OfBoth, Demand3}
+use Rattle.constants.specs.Demand3.{StoredFor, DeclaresAllOf, AddsNoneTo, Evaluation, IsOf, StandsIn, OfEach, OfBoth, Demand3}
 use Rattle.constants.proofs.Tests.{declares_mem}
 use Rattle.constants.proofs.Distinct.{accepted_is_distinct}
 use Rattle.constants.proofs.SameTrees.{same_expressions_are_equal}
@@ -49,6 +51,54 @@ module _ (first second : List ℕ) (one : first_refusal first ≡ none) (two : f
       let same = accepted_is_distinct second two y.0 d y.1 m (y.2 ∙ x.2) in
       (x.0, x.1, x.2, sym y.3 ∙ ap (λ (c : Constant). c.expr) same)
 
+-- what stands somewhere, `In`, is exactly what an accepted book stores: a name with a value
+module _
+    (book : List ℕ) (unrefused : first_refusal book ≡ none) (In : ℕ → ℤ → Type 0)
+    (in_if : (n : ℕ) (z : ℤ) → In n z ↔ Stores each empty (constants (read book)) n z)
+  where
+    abbrev declared : List Constant
+    declared = constants (read book)
+
+    pub in_exactly : (n : ℕ) (z : ℤ) → In n z ↔ StoredFor book n z
+    in_exactly n z = Iff.trans (in_if n z) (stores_the_stored each declared (accepted_is_distinct book unrefused) n z)
+
+    pub none_on_rings : (c : Constant) → Memᴰ c declared → LiesOnRing declared c ⊎ LeadsIntoRing declared c → (z : ℤ) → In c.name z → ⊥
+    none_on_rings c m ring z s =
+        let one = accepted_is_distinct book unrefused in
+        let (d, name, settles) = (in_if c.name z).0 s in
+        let r = ((settles_if each empty declared one d (some z)).0 settles).0 in
+        rings_are_unreached each declared c (subst (Reached each declared) (one d c (reached_declared r) m name) r) ring
+
+-- of two accepted books, of which the second has the first one's constants
+module _
+    (first second : List ℕ) (un : first_refusal first ≡ none) (un' : first_refusal second ≡ none) (all : DeclaresAllOf second first)
+    (In In' : ℕ → ℤ → Type 0) (in_if : (n : ℕ) (z : ℤ) → In n z ↔ Stores each empty (constants (read first)) n z)
+    (in_if' : (n : ℕ) (z : ℤ) → In' n z ↔ Stores each empty (constants (read second)) n z)
+  where
+    abbrev cs : List Constant
+    cs = constants (read first)
+
+    abbrev ds : List Constant
+    ds = constants (read second)
+
+    one : Distinct cs
+    one = accepted_is_distinct first un
+
+    two : Distinct ds
+    two = accepted_is_distinct second un'
+
+    pub in_kept : (n : ℕ) (z : ℤ) → StoredFor first n z → StoredFor second n z × In n z × In' n z
+    in_kept n z s =
+        let a = (stores_the_stored each cs one n z).1 s in
+        let b = extension_keeps each empty cs ds one two (has_all first second un un' all) (λ c m. refl) n z a in
+        ((stores_the_stored each ds two n z).0 b, (in_if n z).1 a, (in_if' n z).1 b)
+
+    pub in_same : AddsNoneTo second first → (n : ℕ) (z : ℤ) → In n z ↔ In' n z
+    in_same adds n z =
+        Iff.trans (in_if n z)
+        (Iff.trans (reordering each empty cs ds one two (has_all first second un un' all) (has_no_more first second un un' all adds) n (some z))
+        (Iff.symm (in_if' n z)))
+
 -- the front of an array: what stands at a number
 filled_at : {A B : Type 0} (f : A → B) (xs : List A) (l : List B) (i : ℕ) (a : A) (d : B) → i < length xs → get_or (filled (map f xs) l) i d ≡ f (get_or xs i a)
 unfolding filled
@@ -71,9 +121,6 @@ mem_at d (Memᴰ.tail m) = let (i, less, e) = mem_at d m in (suc i, omega arith,
 
 -- one accepted book
 module _ (book : List ℕ) (x : Evaluation) (bytes : AreBytes book) (unrefused : first_refusal book ≡ none) (is : IsOf book x) where
-  distinct : Distinct (constants (read book))
-  distinct = accepted_is_distinct book unrefused
-
   xs : List Settled
   xs = settled (read book)
 
@@ -151,17 +198,10 @@ module _ (book : List ℕ) (x : Evaluation) (bytes : AreBytes book) (unrefused :
   stands_if n z = (settles, stands)
 
   of_each : OfEach book x
-  of_each =
-      record {
-        exactly = λ n z. Iff.trans (stands_if n z) (stores_the_stored each (constants (read book)) distinct n z);
-        no_ring =
-            λ c m ring z s.
-            let (d, name, settles) = (stands_if c.name z).0 s in
-            let r = ((settles_if each empty (constants (read book)) distinct d (some z)).0 settles).0 in
-            rings_are_unreached each (constants (read book)) c
-            (subst (Reached each (constants (read book))) (distinct d c (reached_declared r) m name) r)
-            ring;
-      }
+  of_each = record {
+    exactly = in_exactly book unrefused (StandsIn book x) stands_if;
+    no_ring = none_on_rings book unrefused (StandsIn book x) stands_if;
+  }
 
 -- two accepted books, of which the second has the first one's constants
 module _
@@ -169,35 +209,10 @@ module _
     (un' : first_refusal second ≡ none) (is : IsOf first x) (is' : IsOf second y) (all : DeclaresAllOf second first)
   where
     of_both : OfBoth first second x y
-    of_both =
-        record {
-          kept =
-              λ n z s.
-              let a = (stores_the_stored each cs one n z).1 s in
-              let b = extension_keeps each empty cs ds one two (has_all first second un un' all) (λ c m. refl) n z a in (
-                (stores_the_stored each ds two n z).0 b,
-                (stands_if first x bytes un is n z).1 a,
-                (stands_if second y bytes' un' is' n z).1 b,
-              );
-          same =
-              λ adds n z.
-              Iff.trans (stands_if first x bytes un is n z)
-              (Iff.trans
-              (reordering each empty cs ds one two (has_all first second un un' all) (has_no_more first second un un' all adds) n (some z))
-              (Iff.symm (stands_if second y bytes' un' is' n z)));
-        }
-      where
-        cs : List Constant
-        cs = constants (read first)
-
-        ds : List Constant
-        ds = constants (read second)
-
-        one : Distinct cs
-        one = accepted_is_distinct first un
-
-        two : Distinct ds
-        two = accepted_is_distinct second un'
+    of_both = record {
+      kept = in_kept first second un un' all (StandsIn first x) (StandsIn second y) (stands_if first x bytes un is) (stands_if second y bytes' un' is');
+      same = in_same first second un un' all (StandsIn first x) (StandsIn second y) (stands_if first x bytes un is) (stands_if second y bytes' un' is');
+    }
 
 pub demand_3 : Demand3
 demand_3 = record { of_each = of_each; of_both = of_both }

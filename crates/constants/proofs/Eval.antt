@@ -1,4 +1,5 @@
--- What the value of an expression depends on: the values of the names in it, all of them; and a table with one more value.
+-- What the value of an expression depends on: the values of the names in it, all of them; and a table with one more
+-- value.
 -- Assumes nothing.
 use Prim.Native.Nat.{ℕ}
 use mathlib.Core.Bool.{Bool, true, false, cond}

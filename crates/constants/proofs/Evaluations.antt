@@ -5,7 +5,6 @@ use Rattle.std.proofs.Common.{refl, sym, ap, ◌∙◌, subst}
 use Rattle.std.proofs.Math.Option.{Option, some, none}
 use mathlib.Core.List.Memᴰ
 use mathlib.Core.List.{List, Memᴰ}
-use mathlib.Core.Logic.Iff
 use mathlib.Core.Logic.{◌↔◌}
 use Rattle.book.specs.Outline.{read, ◌!◌}
 use Rattle.book.specs.Refusal.{first_refusal}
@@ -14,18 +13,13 @@ use Rattle.constants.specs.Eval.{empty}
 use Rattle.constants.specs.Order.{Constant, each, Reached, outcome}
 use Rattle.constants.specs.Order as settling
 use Rattle.constants.specs.OfBook.{constants, settled}
-use Rattle.constants.specs.Theory.{Distinct, Stores}
+use Rattle.constants.specs.Theory.{Stores}
 use Rattle.constants.specs.Demand3.{DeclaresAllOf}
 use Rattle.constants.specs.declared.reached.Settled.{Settled}
 use Rattle.constants.specs.Given.{answered, told}
 use Rattle.constants.specs.Evaluations.{IsLeftOf, StandsIn, OfEach, OfBoth, EvaluationsStore}
-use Rattle.constants.proofs.Distinct.{accepted_is_distinct}
-use Rattle.constants.proofs.Order.{reached_declared}
-use Rattle.constants.proofs.Final.{settles_if}
-use Rattle.constants.proofs.Stored.{stores_the_stored}
 use Rattle.constants.proofs.Named.{settled_named}
-use Rattle.constants.proofs.Changes.{rings_are_unreached, extension_keeps, reordering}
-use Rattle.constants.proofs.Demand3.{has_all, has_no_more}
+use Rattle.constants.proofs.Demand3.{in_exactly, none_on_rings, in_kept, in_same}
 
 -- a value of the code is one of the definitions
 value_is : (o : Option ℤ) (z : ℤ) → answered o ≡ Some z → o ≡ some z
@@ -34,9 +28,6 @@ value_is (some y) z e = let same : y ≡ z = cc in ap some same
 
 -- one accepted book
 module _ (book : List ℕ) (order : List Settled) (unrefused : first_refusal book ≡ none) (is : IsLeftOf book order) where
-  distinct : Distinct (constants (read book))
-  distinct = accepted_is_distinct book unrefused
-
   order_is : order ≡ map told (outcome each empty (constants (read book)))
   order_is = is.promise ∙ (λ i. map told (outcome each (λ n. is.none_before n i) (constants (read book))))
 
@@ -67,17 +58,10 @@ module _ (book : List ℕ) (order : List Settled) (unrefused : first_refusal boo
   stands_if n z = (settles, stands)
 
   of_each : OfEach book order
-  of_each =
-      record {
-        exactly = λ n z. Iff.trans (stands_if n z) (stores_the_stored each (constants (read book)) distinct n z);
-        no_ring =
-            λ c m ring z s.
-            let (d, name, settles) = (stands_if c.name z).0 s in
-            let r = ((settles_if each empty (constants (read book)) distinct d (some z)).0 settles).0 in
-            rings_are_unreached each (constants (read book)) c
-            (subst (Reached each (constants (read book))) (distinct d c (reached_declared r) m name) r)
-            ring;
-      }
+  of_each = record {
+    exactly = in_exactly book unrefused (StandsIn book order) stands_if;
+    no_ring = none_on_rings book unrefused (StandsIn book order) stands_if;
+  }
 
 -- two accepted books, of which the second has the first one's constants
 module _
@@ -85,35 +69,10 @@ module _
     (is : IsLeftOf first left) (is' : IsLeftOf second right) (all : DeclaresAllOf second first)
   where
     of_both : OfBoth first second left right
-    of_both =
-        record {
-          kept =
-              λ n z s.
-              let a = (stores_the_stored each cs one n z).1 s in
-              let b = extension_keeps each empty cs ds one two (has_all first second un un' all) (λ c m. refl) n z a in (
-                (stores_the_stored each ds two n z).0 b,
-                (stands_if first left un is n z).1 a,
-                (stands_if second right un' is' n z).1 b,
-              );
-          same =
-              λ adds n z.
-              Iff.trans (stands_if first left un is n z)
-              (Iff.trans
-              (reordering each empty cs ds one two (has_all first second un un' all) (has_no_more first second un un' all adds) n (some z))
-              (Iff.symm (stands_if second right un' is' n z)));
-        }
-      where
-        cs : List Constant
-        cs = constants (read first)
-
-        ds : List Constant
-        ds = constants (read second)
-
-        one : Distinct cs
-        one = accepted_is_distinct first un
-
-        two : Distinct ds
-        two = accepted_is_distinct second un'
+    of_both = record {
+      kept = in_kept first second un un' all (StandsIn first left) (StandsIn second right) (stands_if first left un is) (stands_if second right un' is');
+      same = in_same first second un un' all (StandsIn first left) (StandsIn second right) (stands_if first left un is) (stands_if second right un' is');
+    }
 
 pub evaluations_store : EvaluationsStore
 evaluations_store = record { of_each = of_each; of_both = of_both }

@@ -15,7 +15,6 @@ pub mod Changes
 pub mod Stored
 pub mod Numbered
 pub mod Turns
-pub mod Hinting
 pub mod Earliest
 pub mod Working
 pub mod Demand3

@@ -7,7 +7,7 @@ use Rattle.std.proofs.Math.Seq.{get_or-set_same, get_or-set_other}
 use mathlib.Core.Bool.{and-false}
 use mathlib.Core.List.{append-nil}
 use native.Mathlib.Decide.{ℕ_discrete, dec_lt}
-use borrow.Author.Tests.{eqb-true, eq-eqb, ne_eqb, lt-ltb}
+use borrow.Author.Tests.{eqb-true, eq-eqb, ne_eqb}
 use Rattle.arith.specs.Checked.{answer}
 use Rattle.book.specs.Outline.{Book, ◌!◌}
 use Rattle.constants.specs.Eval.{store, eval_const_expr}
@@ -15,14 +15,15 @@ use Rattle.constants.specs.Order.{Constant, each, has, declares, admits, ready, 
 use Rattle.constants.specs.Order as settling
 use Rattle.constants.specs.Tables.{constant_in}
 use Rattle.constants.specs.Tree.{tree}
-use Rattle.constants.specs.declared.works.Hints.{Hints}
-use Rattle.constants.specs.declared.reached.Settled.{Settled}
-use Rattle.constants.specs.Given.{table_in, answered, pushed, told, stored, stored_behind}
-use Rattle.constants.specs.Steps.{State, Run, settled_as, settled, next_low, turned, first_from, settled_from}
+use Rattle.constants.specs.declared.works.Waits as code
+use Rattle.constants.specs.declared.works.Waits.TheVariants.{Done}
+use Rattle.constants.specs.Given.{table_in, answered, told, stored, stored_behind}
+use Rattle.constants.specs.Steps.{State, Run, turn, settled_as, settled_at, settled, next_low, turned, first_from, settled_from}
+use Rattle.constants.proofs.Kept.{pushed-room}
 use Rattle.constants.proofs.Order.{has_later}
 use Rattle.constants.proofs.Turns.{has_own, has_other, done_not_ready}
 use Rattle.constants.proofs.Earliest.{find_at, find_past}
-use Rattle.constants.proofs.Standing.{Waits, not_admitted, over, for, Open, Stands, IsOf, each_put, IsFirst, finds}
+use Rattle.constants.proofs.Standing.{Waits, not_admitted, over, for, for_one, Open, Stands, IsOf, turn_there, each_put, IsFirst, finds}
 
 -- the order takes the first that is ready from `low` on, if those before are done
 module _ (cs : List Constant) (done : List ℕ) (low : ℕ) (before : (j : ℕ) → j < low → has (constant_in cs j).name done ≡ true) where
@@ -80,11 +81,11 @@ open_then cs done undone o name inside m = go (ℕ_discrete m name)
 
 -- another constant waits for what it did
 waits_then :
-    {cs : List Constant} {done named : List ℕ} {c : Constant} {o : Answer Hints} (name : ℕ) → (c.name ≡ name → ⊥) → Waits cs done named c o →
-    Waits cs (name ∷ done) named c o
+    {cs : List Constant} {done : List ℕ} {c : Constant} {w : code.Waits} (name : ℕ) → (c.name ≡ name → ⊥) → Waits cs done c w → Waits cs (name ∷ done) c w
 waits_then name ne (not_admitted a) = not_admitted a
 waits_then {done = done} {c = c} name ne (over h) = over (has_later c.name name done h)
-waits_then {done = done} {c = c} name ne (for f a h) = for (has_other c.name name done ne ∙ f) a h
+waits_then {done = done} {c = c} name ne (for f a) = for (has_other c.name name done ne ∙ f) a
+waits_then {done = done} {c = c} name ne (for_one f a m) = for_one (has_other c.name name done ne ∙ f) a m
 
 -- a turn
 module _ {book : Book} {cs : List Constant} (of : IsOf book cs) (most : ℕ) where
@@ -99,22 +100,23 @@ module _ {book : Book} {cs : List Constant} (of : IsOf book cs) (most : ℕ) whe
     settled_is : settled most book k t ≡ settled_as most k c.place c.name (answered value) t
     unfolding settled
     settled_is =
-        ap (λ p. settled_as most k p (book ! p).a (answered (eval_const_expr (table_in t.values) (tree book (book ! p).c))) t) (x.places k less)
+        ap (λ o. settled_at most book k o t) (turn_there x k less)
+        ∙ ap (λ p. settled_as most k p (book ! p).a (answered (eval_const_expr (table_in t.values) (tree book (book ! p).c))) t) (x.placed k less)
         ∙ ap (λ n. settled_as most k c.place n (answered (eval_const_expr (table_in t.values) (tree book (book ! c.place).c))) t) (of.name_is k less)
         ∙ ap (λ e. settled_as most k c.place c.name (answered (eval_const_expr (table_in t.values) e)) t) (of.expr_is k less)
 
     stands_then : c.name < length t.works.undone → Stands cs (c.name ∷ done) (settled_as most k c.place c.name (answered value) t).works
     stands_then inside = record {
       open_is = open_then cs done t.works.undone x.open_is c.name inside;
-      counted = x.counted;
-      long = omega (arith, length-set t.works.turns k (record { place = c.place; hints = None }), x.long);
-      places =
-          each_put (λ j t. t.place ≡ (constant_in cs j).place) t.works.turns k (record { place = c.place; hints = None }) (length cs)
-          (omega (arith, x.long)) refl (λ j l _. x.places j l);
+      long = length-set t.works.turns k (turn c.place Done) ∙ x.long;
+      placed =
+          each_put (λ j t. t.place ≡ (constant_in cs j).place) t.works.turns k (turn c.place Done) (length cs)
+          (omega (arith, x.long)) refl (λ j l _. x.placed j l);
       waits =
-          each_put (λ j u. Waits cs (c.name ∷ done) t.works.named (constant_in cs j) u.hints) t.works.turns k
-          (record { place = c.place; hints = None }) (length cs) (omega (arith, x.long)) (over (has_own c.name done))
+          each_put (λ j u. Waits cs (c.name ∷ done) (constant_in cs j) u.waits) t.works.turns k
+          (turn c.place Done) (length cs) (omega (arith, x.long)) (over (has_own c.name done))
           (λ j l ne. waits_then c.name (λ e. ne (of.one_name j k l less e)) (x.waits j l));
+      owned = x.owned;
     }
 
   -- there is room: for the names of the constants, and for so many more
@@ -140,10 +142,6 @@ module _ {book : Book} {cs : List Constant} (of : IsOf book cs) (most : ℕ) whe
     order_is = e.order_is ∙ ap (λ l. l ++ map told xs) o ∙ append_assoc t.order (told x ∷ []) (map told xs);
     values_are = e.values_are ∙ ap (stored_behind xs) w;
   }
-
-  pushed_room : (l : List Settled) (x : Settled) → length l < most → pushed most l x ≡ l ++ (x ∷ [])
-  unfolding pushed
-  pushed_room l x room = rw (lt-ltb (length l) most room) refl
 
   abbrev AllEnds : ℕ → Type 0
   AllEnds left =
@@ -191,11 +189,11 @@ module _ {book : Book} {cs : List Constant} (of : IsOf book cs) (most : ℕ) whe
           (record {
             undone_long = λ j l. omega (arith, length-set s.undone d.name false, ap length same, room.undone_long j l);
             values_long = λ j l. omega (arith, stored_long t.values d.name (answered z), room.values_long j l);
-            order_long = omega (arith, ap length (pushed_room t.order (told (record { constant = d; value = z })) (omega (arith, room.order_long))), length-append t.order (told (record { constant = d; value = z }) ∷ []), room.order_long);
+            order_long = omega (arith, ap length (pushed-room most t.order (told (record { constant = d; value = z })) (omega (arith, room.order_long))), length-append t.order (told (record { constant = d; value = z }) ∷ []), room.order_long);
           })
           (next_within k less (eqb k low)) (next_done k first.0 (eqb k low) refl) in
           let whole : Ends t later (record { constant = d; value = z } ∷ xs) =
-          ends_more t u later (record { constant = d; value = z }) xs (pushed_room t.order (told (record { constant = d; value = z })) (omega (arith, room.order_long))) refl
+          ends_more t u later (record { constant = d; value = z }) xs (pushed-room most t.order (told (record { constant = d; value = z })) (omega (arith, room.order_long))) refl
           (subst (λ T. Ends u later (settle T (order_from left each cs (d.name ∷ done)))) (table_then t.values d.name z by_name) ih) in
           rw (order_next cs done low before k first left, settled_is v x k less) whole
 
@@ -203,6 +201,6 @@ module _ {book : Book} {cs : List Constant} (of : IsOf book cs) (most : ℕ) whe
   unfolding settled_from settle order_from
   ends zero low done t x room within before = ends_none t t [] refl refl refl
   ends (suc left) low done t x room within before =
-      let f = finds of (t.works.count - low) low t.works x (omega (arith, x.counted)) in
+      let f = finds of (length t.works.turns - low) low t.works x (omega (arith, x.long)) in
       turn_ends left low done t room before within (ends left) (first_from book low t.works).number (first_from book low t.works).state f.first f.stands
       f.undone_same

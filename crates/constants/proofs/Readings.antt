@@ -1,7 +1,6 @@
 -- The constants of a book that is read, as the code takes them apart.
 -- Assumes nothing.
-use Rattle.std.specs.Prelude.{ℕ, zero, suc, ◌+◌, ◌≤◌, ◌<◌, true, List, ◌≡◌, length, ℤ, Option as Answer}
-use Rattle.book.specs.Accepted.{IsRead}
+use Rattle.std.specs.Prelude.{ℕ, zero, suc, ◌+◌, ◌≤◌, ◌<◌, true, ◌≡◌, length}
 use Rattle.std.proofs.Common.{refl, sym, ap, ◌∙◌, subst, arith}
 use borrow.Author.Tests.{lt-ltb, eqb-true}
 use Rattle.record.specs.declared.Record.{Record}
@@ -13,36 +12,38 @@ use Rattle.book.specs.Trees.{IsChild, WellFormed}
 use Rattle.book.proofs.Trees.{by_rows}
 use Rattle.book.proofs.Members.{mem_keep, mem_up_to, all_of}
 use Rattle.book.proofs.Lists.{keep-length, from-length}
-use Rattle.constants.specs.Expr.{Expr, operation, op_of, expr_of, expr_at}
-use Rattle.constants.specs.Order.{Constant, each, outcome}
-use Rattle.constants.specs.OfBook.{constant_at, constants, settled}
+use Rattle.constants.specs.Expr.{Expr, literal, operation, literal_of, op_of, expr_of, expr_at}
+use Rattle.constants.specs.Order.{Constant}
+use Rattle.constants.specs.OfBook.{constant_at, constants}
 use Rattle.constants.specs.Tables.{constant_in}
-use Rattle.constants.specs.Given.{NamesIn, table_in}
-use Rattle.constants.specs.Tree.{node_of, expr_by, levels_of, tree}
+use Rattle.constants.specs.Given.{NamesIn}
+use Rattle.record.specs.Kind.{kind_from}
+use Rattle.constants.specs.Tree.{literal_named, literal_by, node_of, expr_by, levels_of, tree}
 use Rattle.constants.proofs.Declared.{IsAt, declared_at, expression_is_child}
-use Rattle.std.proofs.Math.Option.{none}
-use Rattle.book.proofs.Declares.{shaped_name}
-use Rattle.constants.proofs.Distinct.{set_of_constants}
 use Rattle.constants.proofs.Whole.{whole_expressions}
-use Rattle.constants.proofs.Numbered.{among, as_many, one_name}
-use Rattle.constants.proofs.Trees.{tree_levels}
+use Rattle.constants.proofs.Numbered.{among, as_many, one_name, places_ascend}
+use Rattle.constants.proofs.Trees.{tree_levels, literal_is, op_is}
 use Rattle.constants.proofs.Standing.{IsOf}
 
--- a record of an expression gives the same by both ways, if its sides do. The rows: two of literals, references, operations
+-- a record of an expression gives the same by both ways, if its sides do. The rows: two of literals, references,
+-- operations
 gives_same :
     (f g : ℕ → Expr) (n : ℕ) (P : Child → Type 0) → ((m : ℕ) → P (record { group = constant; number = m }) → (m < n) × (f m ≡ g m)) →
     (r : Record) → is_of constant r ≡ true → All P (children r) → expr_by f n (node_of r) ≡ expr_of g r
-unfolding keep table child_in expr_of expr_by
+unfolding keep table child_in expr_of expr_by kind_from
 gives_same f g n P agree r is =
     by_rows (λ r cs. All P cs → expr_by f n (node_of r) ≡ expr_of g r) constant r is (
-      λ l h p. refl,
-      (λ l h p. refl, (λ l h p. refl, (λ l h p. operation_same (agree r.a p.0) (agree r.b p.1.0), tt))),
+      λ l h p. value_same,
+      (λ l h p. value_same, (λ l h p. refl, (λ l h p. operation_same (agree r.a p.0) (agree r.b p.1.0), tt))),
     )
   where
+    value_same : literal (literal_named (literal_by r.sub)) r.v ≡ literal (literal_of r.sub) r.v
+    value_same = ap (λ l. literal l r.v) (literal_is r.sub)
+
     operation_same :
         (r.a < n) × (f r.a ≡ g r.a) → (r.b < n) × (f r.b ≡ g r.b) →
         expr_by f n (node_of (record r { kind = 12 })) ≡ operation (op_of r.sub) (g r.a) (g r.b)
-    operation_same (less, a) (less', b) = rw (lt-ltb r.a n less, lt-ltb r.b n less') (λ i. operation (op_of r.sub) (a i) (b i))
+    operation_same (less, a) (less', b) = rw (lt-ltb r.a n less, lt-ltb r.b n less') (λ i. operation (op_is r.sub i) (a i) (b i))
 
 module _ (book : Book) (sound : WellFormed book.records) where
   levels_same :
@@ -74,6 +75,9 @@ module _ (book : Book) (sound : WellFormed book.records) where
         let child = expression_is_child book.records sound c.place at.1 at.2 in
         tree_is (book ! c.place).c (omega (arith, child.earlier, at.1)) child.of_group ∙ sym (ap (λ (c : Constant). c.expr) at.0)
 
+    not_first : 0 < c.place
+    not_first = omega (arith, (expression_is_child book.records sound c.place at.1 at.2).earlier)
+
     name_here : (book ! c.place).a ≡ c.name
     unfolding constant_at
     name_here = sym (ap (λ (c : Constant). c.name) at.0)
@@ -86,6 +90,8 @@ module _ (book : Book) (sound : WellFormed book.records) where
     expr_is = expr_here;
     name_is = name_here;
     one_name = λ i j less less' same. one_name book sound i j less less' same;
+    ascend = places_ascend book;
+    beyond_first = not_first;
   }
 
   -- there are no more than records
@@ -103,15 +109,3 @@ names_all book most below =
     (λ n m.
     let (inside, is) = mem_keep (λ n. is_kind 24 (book ! n)) (up_to (length book.records)) m in
     below n (mem_up_to _ inside) (eqb-true _ _ is))
-
--- all names are below 4,096
-pub names_in : (book : Book) → IsRead book → NamesIn book 4096
-names_in book read n less kind =
-    shaped_name (book ! n) (read.well_formed n less).shaped (omega (arith, set_of_constants (book ! n) kind))
-
--- over values of which there are none, what comes of it is what is settled of the book
-pub outcome_settled :
-    (values : List (Answer ℤ)) → ((n : ℕ) → table_in values n ≡ none) → (book : Book) →
-    outcome each (table_in values) (constants book) ≡ settled book
-unfolding settled
-outcome_settled values none_before book = λ i. outcome each (λ n. none_before n i) (constants book)

@@ -1,5 +1,5 @@
--- Two expressions are the same, told from the records, exactly if they are equal: what stands at a place of a tree is what stands there in its
--- expression, and expressions that agree at every place are equal.
+-- Two expressions are the same, told from the records, exactly if they are equal: what stands at a place of a tree is
+-- what stands there in its expression, and expressions that agree at every place are equal.
 -- Assumes nothing.
 use Prim.Native.Nat.{ℕ, ◌<◌}
 use mathlib.Core.Bool.{true, false, ◌&&◌, false≢true}

@@ -1,33 +1,47 @@
--- What the code keeps of the constants that are declared, when some names are done; and what that says of the ready ones.
+-- What the code keeps of the constants that are declared, when some names are done; and what that says of the ready
+-- ones.
 -- Assumes nothing.
-use Rattle.std.specs.Prelude.{ℕ, zero, suc, ◌+◌, ◌-◌, ◌≤◌, ◌<◌, Bool, true, false, not, cond, ◌&&◌, ◌≡◌, ltb, List, [], ◌∷◌, length, get_or, set, find, Option, Some, None}
+use Rattle.std.specs.Prelude.{eqb, ◌||◌, ℕ, zero, suc, ◌+◌, ◌-◌, ◌≤◌, ◌<◌, Bool, true, false, not, cond, ◌&&◌, ◌≡◌, List, [], ◌∷◌, length, get_or, set, find, Option, Some, None}
 use Rattle.std.specs.List.{range_with_len}
-use Rattle.std.proofs.Common.{refl, sym, ap, ◌∙◌, arith, length-set}
+use Rattle.std.proofs.Common.{refl, sym, ap, ◌∙◌, subst, arith, length-set}
+use Rattle.std.proofs.lemmas.Option.{slice_get-get_or}
 use Rattle.std.proofs.Math.Seq.{get_or-set_same, get_or-set_other}
 use mathlib.Core.Bool.{true≢false}
 use native.Mathlib.Decide.{ℕ_discrete}
 use Rattle.book.specs.Lists.{any, keep}
 use Rattle.book.specs.Outline.{Book, ◌!◌}
 use Rattle.book.proofs.Members.{mem_any}
-use Rattle.book.proofs.Trees.{not_so, both_so}
-use borrow.Author.Tests.{ltb-true}
+use Rattle.book.proofs.Trees.{not_so}
+use borrow.Author.Tests.{eqb-true}
 use Rattle.constants.specs.Expr.{Expr, refs}
 use Rattle.constants.specs.Order.{Constant, each, has, declares, declared_refs, admits, ready}
 use Rattle.constants.specs.Tables.{constant_in, Names}
-use Rattle.constants.specs.Tables as kept
 use Rattle.constants.specs.Tree.{tree}
-use Rattle.constants.specs.declared.works.Hints.{Hints}
+use Rattle.constants.specs.declared.works.Named.{Named}
+use Rattle.constants.specs.declared.works.Waits as code
+use Rattle.constants.specs.declared.works.Waits.TheVariants.{NotAdmitted, Done, Names as Of, Name}
 use Rattle.constants.specs.declared.works.Turn.{Turn}
-use Rattle.constants.specs.Steps.{State, no_turn, turn_at, put_turn, names_undone, Told, next_hint, still_waits, told_by_next, told_by, looked_at, Found, found, ready_from}
+use Rattle.constants.specs.Steps.{State, turn, nobody, named_at, turn_at, put_turn, names_undone, Told, told, stops, next_stop, own_stop, next_undone, next_of, still_waits, told_by_next, told_by, told_at, looked_on, looked_at, Found, found, ready_from}
 use Rattle.constants.proofs.Tests.{has_mem, is-ready}
 
 -- what a constant waits for, as the code keeps it
-pub data Waits (cs : List Constant) (done named : List ℕ) (c : Constant) : Option Hints → Type 0 where
-  not_admitted : admits each cs c ≡ false → Waits cs done named c None
-  over : has c.name done ≡ true → Waits cs done named c None
-  for :
-      {h : Hints} → has c.name done ≡ false → admits each cs c ≡ true → kept.Hints c.expr named h.next h.end →
-      Waits cs done named c (Some h)
+pub data Waits (cs : List Constant) (done : List ℕ) (c : Constant) : code.Waits → Type 0 where
+  not_admitted : admits each cs c ≡ false → Waits cs done c NotAdmitted
+  over : has c.name done ≡ true → Waits cs done c Done
+  for : {next : ℕ} → has c.name done ≡ false → admits each cs c ≡ true → Waits cs done c (Of next)
+  for_one : {n next : ℕ} → has c.name done ≡ false → admits each cs c ≡ true → Names c.expr n → Waits cs done c (Name n next)
+
+-- what is listed as a name that a constant names is one
+abbrev pub Owned : List Constant → List Named → Type 0
+Owned cs named =
+    (k i : ℕ) → i < length cs → (get_or named k nobody).by ≡ (constant_in cs i).place → Names (constant_in cs i).expr (get_or named k nobody).name
+
+-- turn i, if there is one
+abbrev pub no_turn : Turn
+no_turn = turn 0 NotAdmitted
+
+abbrev pub turn_in : ℕ → State → Turn
+turn_in i s = get_or s.turns i no_turn
 
 -- the names that are undone are those of declared constants that are not done
 abbrev pub Open : List Constant → List ℕ → List Bool → Type 0
@@ -36,16 +50,22 @@ Open cs done undone = (n : ℕ) → get_or undone n false ≡ declares cs n && n
 -- some names are done
 pub record Stands (cs : List Constant) (done : List ℕ) (s : State) : Type 0 where
   pub open_is : Open cs done s.undone
-  pub counted : s.count ≡ length cs
-  pub long : length cs ≤ length s.turns
-  pub places : (i : ℕ) → i < length cs → (turn_at i s).place ≡ (constant_in cs i).place
-  pub waits : (i : ℕ) → i < length cs → Waits cs done s.named (constant_in cs i) (turn_at i s).hints
+  pub long : length s.turns ≡ length cs
+  pub placed : (i : ℕ) → i < length cs → (turn_in i s).place ≡ (constant_in cs i).place
+  pub waits : (i : ℕ) → i < length cs → Waits cs done (constant_in cs i) (turn_in i s).waits
+  pub owned : Owned cs s.named
+
+-- the turn of each constant is there
+pub turn_there : {cs : List Constant} {done : List ℕ} {s : State} → Stands cs done s → (i : ℕ) → i < length cs → turn_at i s ≡ Some (turn_in i s)
+turn_there {s = s} x i less = slice_get-get_or s.turns i no_turn (omega (arith, x.long))
 
 -- the book has these constants: each by its record
 pub record IsOf (book : Book) (cs : List Constant) : Type 0 where
   pub expr_is : (i : ℕ) → i < length cs → tree book (book ! (constant_in cs i).place).c ≡ (constant_in cs i).expr
   pub name_is : (i : ℕ) → i < length cs → (book ! (constant_in cs i).place).a ≡ (constant_in cs i).name
   pub one_name : (i j : ℕ) → i < length cs → j < length cs → (constant_in cs i).name ≡ (constant_in cs j).name → i ≡ j
+  pub ascend : (i j : ℕ) → i < j → j < length cs → (constant_in cs i).place < (constant_in cs j).place
+  pub beyond_first : (i : ℕ) → i < length cs → 0 < (constant_in cs i).place
 
 -- what holds of a turn that is put down, and of the others
 pub each_put :
@@ -59,15 +79,15 @@ each_put P l i t b less here others j inside = go (ℕ_discrete j i)
 
 pub stands_put :
     {cs : List Constant} {done : List ℕ} {s : State} → Stands cs done s → (i : ℕ) → i < length cs → (t : Turn) →
-    t.place ≡ (constant_in cs i).place → Waits cs done s.named (constant_in cs i) t.hints → Stands cs done (put_turn i t s)
+    t.place ≡ (constant_in cs i).place → Waits cs done (constant_in cs i) t.waits → Stands cs done (put_turn i t s)
 stands_put {cs} {done} {s} x i less t place waits = record {
   open_is = x.open_is;
-  counted = x.counted;
-  long = omega (arith, length-set s.turns i t, x.long);
-  places = each_put (λ j t. t.place ≡ (constant_in cs j).place) s.turns i t (length cs) (omega (arith, x.long)) place (λ j l _. x.places j l);
+  long = length-set s.turns i t ∙ x.long;
+  placed = each_put (λ j t. t.place ≡ (constant_in cs j).place) s.turns i t (length cs) (omega (arith, x.long)) place (λ j l _. x.placed j l);
   waits =
-      each_put (λ j t. Waits cs done s.named (constant_in cs j) t.hints) s.turns i t (length cs) (omega (arith, x.long)) waits
+      each_put (λ j t. Waits cs done (constant_in cs j) t.waits) s.turns i t (length cs) (omega (arith, x.long)) waits
       (λ j l _. x.waits j l);
+  owned = x.owned;
 }
 
 -- a test of those that are kept
@@ -102,14 +122,11 @@ unfolding names_undone
 names_one undone e n names is = mem_any (λ n. get_or undone n false) (has_mem n (refs e) names) is
 
 -- one that is done or not admitted is not
-pub not_ready_none :
-    {cs : List Constant} {done named : List ℕ} {c : Constant} → Waits cs done named c None → ready each cs done c ≡ false
-not_ready_none {cs} {done} {named} {c} w = go None w refl
-  where
-    go : (o : Option Hints) → Waits cs done named c o → o ≡ None → ready each cs done c ≡ false
-    go None (not_admitted a) e = not_so _ (λ r. true≢false (sym (is-ready each cs done c r).admitted ∙ a))
-    go None (over h) e = not_so _ (λ r. true≢false (sym h ∙ (is-ready each cs done c r).fresh))
-    go (Some h) (for f a x) e = cc
+not_admitted_not : (cs : List Constant) (done : List ℕ) (c : Constant) → admits each cs c ≡ false → ready each cs done c ≡ false
+not_admitted_not cs done c a = not_so _ (λ r. true≢false (sym (is-ready each cs done c r).admitted ∙ a))
+
+over_not : (cs : List Constant) (done : List ℕ) (c : Constant) → has c.name done ≡ true → ready each cs done c ≡ false
+over_not cs done c h = not_so _ (λ r. true≢false (sym h ∙ (is-ready each cs done c r).fresh))
 
 -- what a search finds in a range
 pub record InRange (test : ℕ → Bool) (a n x : ℕ) : Type 0 where
@@ -134,53 +151,83 @@ module _ {book : Book} {cs : List Constant} (of : IsOf book cs) {done : List ℕ
   abbrev c : Constant
   c = constant_in cs i
 
-  record Tells (t : Told) : Type 0 where
-    ready_is_lem : t.ready ≡ ready each cs done c
-    stands : Stands cs done t.state
-    undone_same : t.state.undone ≡ s.undone
+  abbrev t : Turn
+  t = turn_in i s
+
+  record Tells (u : Told) : Type 0 where
+    ready_is_lem : u.ready ≡ ready each cs done c
+    stands : Stands cs done u.state
+    undone_same : u.state.undone ≡ s.undone
+
+  tells_not : ready each cs done c ≡ false → Tells (told false s)
+  tells_not e = record { ready_is_lem = sym e; stands = x; undone_same = refl }
+
+  -- it names an undone name
+  one_not : has c.name done ≡ false → admits each cs c ≡ true → (n : ℕ) → Names c.expr n → get_or s.undone n false ≡ true → ready each cs done c ≡ false
+  one_not fresh admitted n names is = ready_is cs done s.undone x.open_is c fresh admitted ∙ ap not (names_one s.undone c.expr n names is)
+
+  -- the name at its own stop is undone
+  own_is : (o : Option ℕ) (j : ℕ) → own_stop t.place s o ≡ Some j → (o ≡ Some j) × (eqb (named_at j s).by t.place ≡ true)
+  own_is None j e = cc
+  own_is (Some k) j e = go (eqb (named_at k s).by t.place) refl e
+    where
+      go : (b : Bool) → eqb (named_at k s).by t.place ≡ b → cond b (Some k) None ≡ Some j → (Some k ≡ Some j) × (eqb (named_at j s).by t.place ≡ true)
+      go true is e =
+          let same : k ≡ j = cc in
+          (e, ap (λ k. eqb (named_at k s).by t.place) (sym same) ∙ is)
+      go false is e = cc
+
+  undone_is : (own undone : Bool) → own ≡ true → not own || undone ≡ true → undone ≡ true
+  undone_is true undone is e = e
+  undone_is false undone is e = absurd (true≢false (sym is))
 
   tells_next :
-      (h : Hints) → has c.name done ≡ false → admits each cs c ≡ true → kept.Hints c.expr s.named h.next h.end →
-      (o : Option ℕ) → next_hint h s ≡ o → Tells (told_by_next book i (turn_at i s).place h o s)
-  tells_next h fresh admitted hints None e = record {
+      (next : ℕ) → has c.name done ≡ false → admits each cs c ≡ true → (o : Option ℕ) → next_undone t.place next s ≡ o →
+      Tells (told_by_next book i t.place o s)
+  tells_next next fresh admitted None e = record {
     ready_is_lem =
-        ap (λ p. not (names_undone s.undone (tree book (book ! p).c))) (x.places i less)
+        ap (λ p. not (names_undone s.undone (tree book (book ! p).c))) (x.placed i less)
         ∙ ap (λ e. not (names_undone s.undone e)) (of.expr_is i less)
         ∙ sym (ready_is cs done s.undone x.open_is c fresh admitted);
     stands = x;
     undone_same = refl;
   }
-  tells_next h fresh admitted hints (Some next) e =
-      let r = find_range (λ j. get_or s.undone (get_or s.named j 0) false) (h.end - h.next) h.next next e in
-      let names : Names c.expr (get_or s.named next 0) = hints.names next r.from (omega (arith, r.before, r.from)) in
+  tells_next next fresh admitted (Some at) e =
+      let (is, own) = own_is (next_stop t.place next s) at e in
+      let r = find_range (stops t.place s) (s.end - next) next at is in
+      let undone : get_or s.undone (named_at at s).name false ≡ true =
+      undone_is (eqb (named_at at s).by t.place) (get_or s.undone (named_at at s).name false) own r.passes in
+      let names : Names c.expr (named_at at s).name = x.owned at i less (eqb-true _ _ own ∙ x.placed i less) in
       record {
-        ready_is_lem = ap not (sym (names_one s.undone c.expr (get_or s.named next 0) names r.passes)) ∙ sym (ready_is cs done s.undone x.open_is c fresh admitted);
-        stands =
-            stands_put x i less (record { place = (turn_at i s).place; hints = Some (record { next = next; end = h.end }) }) (x.places i less)
-            (for fresh admitted (record { within = hints.within; names = λ j from below. hints.names j (omega (arith, r.from)) below }));
+        ready_is_lem = sym (one_not fresh admitted (named_at at s).name names undone);
+        stands = stands_put x i less (turn t.place (Name (named_at at s).name at)) (x.placed i less) (for_one fresh admitted names);
         undone_same = refl;
       }
 
-  tells_by : (o : Option Hints) → Waits cs done s.named c o → Tells (told_by book i (turn_at i s).place o s)
-  tells_by None w = record { ready_is_lem = sym (not_ready_none w); stands = x; undone_same = refl }
-  tells_by (Some h) (for fresh admitted hints) = by (still_waits h s) refl
-    where
-      by :
-          (b : Bool) → still_waits h s ≡ b →
-          Tells (cond b (record { ready = false; state = s }) (told_by_next book i (turn_at i s).place h (next_hint h s) s))
-      by true e =
-          let (less, undone) = both_so (ltb h.next h.end) (get_or s.undone (get_or s.named h.next 0) false) e in
-          let names : Names c.expr (get_or s.named h.next 0) = hints.names h.next (omega arith) (ltb-true h.next h.end less) in
-          record {
-            ready_is_lem = ap not (sym (names_one s.undone c.expr (get_or s.named h.next 0) names undone)) ∙ sym (ready_is cs done s.undone x.open_is c fresh admitted);
-            stands = x;
-            undone_same = refl;
-          }
-      by false e = tells_next h fresh admitted hints (next_hint h s) refl
+  tells_by : (w : code.Waits) → Waits cs done c w → Tells (told_by book i t.place (next_of w) s)
+  tells_by NotAdmitted (not_admitted a) = tells_not (not_admitted_not cs done c a)
+  tells_by Done (over h) = tells_not (over_not cs done c h)
+  tells_by (Of next) (for fresh admitted) = tells_next next fresh admitted (next_undone t.place next s) refl
+  tells_by (Name n next) (for_one fresh admitted names) = tells_next next fresh admitted (next_undone t.place next s) refl
+
+  tells_on : Tells (looked_on book i s)
+  unfolding looked_on
+  tells_on = subst (λ o. Tells (told_at book i o s)) (sym (turn_there x i less)) (tells_by t.waits (x.waits i less))
+
+  -- while it waits still, it is not ready
+  waits_not : (w : code.Waits) → Waits cs done c w → still_waits (Some (turn t.place w)) s ≡ true → ready each cs done c ≡ false
+  waits_not NotAdmitted (not_admitted a) e = not_admitted_not cs done c a
+  waits_not Done (over h) e = over_not cs done c h
+  waits_not (Of next) v e = absurd (true≢false (sym e))
+  waits_not (Name n next) (for_one fresh admitted names) e = one_not fresh admitted n names e
 
   tells : Tells (looked_at book i s)
   unfolding looked_at
-  tells = tells_by (turn_at i s).hints (x.waits i less)
+  tells = by (still_waits (turn_at i s) s) refl
+    where
+      by : (b : Bool) → still_waits (turn_at i s) s ≡ b → Tells (cond b (told false s) (looked_on book i s))
+      by true e = tells_not (waits_not t.waits (x.waits i less) (ap (λ o. still_waits o s) (sym (turn_there x i less)) ∙ e))
+      by false e = tells_on
 
 -- the first ready constant from a number on
 abbrev pub IsFirst : List Constant → List ℕ → ℕ → Option ℕ → Type 0

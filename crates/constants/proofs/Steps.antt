@@ -7,19 +7,20 @@ use Rattle.book.specs.Outline.{Book}
 use Rattle.constants.specs.Steps.{State, opened, opened_all, admitted, admitted_from, looked_at, found, ready_from, Run, run, first_from, next_low, settled, settled_from}
 
 pub opens-next :
-    (book : Book) (ns : List ℕ) (i : ℕ) (s : State) → i < length ns →
-    opened_all book (drop i ns) s ≡ opened_all book (drop (i + 1) ns) (opened book (get_or ns i 0) s)
+    (most : ℕ) (book : Book) (ns : List ℕ) (i : ℕ) (s : State) → i < length ns →
+    opened_all most book (drop i ns) s ≡ opened_all most book (drop (i + 1) ns) (opened most book (get_or ns i 0) s)
 unfolding opened_all
-opens-next book ns i s h = rw (drop-cons ns i 0 h, opened_all) (ap (λ l. opened_all book l (opened book (get_or ns i 0) s)) (ap (λ k. drop k ns) (sym (add-one i))))
+opens-next most book ns i s h =
+    rw (drop-cons ns i 0 h, opened_all) (ap (λ l. opened_all most book l (opened most book (get_or ns i 0) s)) (ap (λ k. drop k ns) (sym (add-one i))))
 
-pub opens-end : (book : Book) (ns : List ℕ) (i : ℕ) (s : State) → length ns ≤ i → opened_all book (drop i ns) s ≡ s
+pub opens-end : (most : ℕ) (book : Book) (ns : List ℕ) (i : ℕ) (s : State) → length ns ≤ i → opened_all most book (drop i ns) s ≡ s
 unfolding opened_all
-opens-end book ns i s h = ap (λ l. opened_all book l s) (drop_all i ns h)
+opens-end most book ns i s h = ap (λ l. opened_all most book l s) (drop_all i ns h)
 
 pub ruleset opens = (opens-next, opens-end)
 
 pub admits-next :
-    (book : Book) (m i : ℕ) (s : State) → i < m → admitted_from book (m - i) i s ≡ admitted_from book (m - (i + 1)) (i + 1) (admitted book i (i + 1) s)
+    (book : Book) (m i : ℕ) (s : State) → i < m → admitted_from book (m - i) i s ≡ admitted_from book (m - (i + 1)) (i + 1) (admitted book i s)
 unfolding admitted_from
 admits-next book m i s h = let e : m - i ≡ suc (m - (i + 1)) = omega arith in rw (e, admitted_from) refl
 

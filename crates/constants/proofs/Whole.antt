@@ -1,4 +1,5 @@
--- 64 levels are the whole tree of an expression: what a record gives depends on what its children give, and on no other record.
+-- 64 levels are the whole tree of an expression: what a record gives depends on what its children give, and on no other
+-- record.
 -- Assumes nothing.
 use Prim.Native.Nat.{ℕ, ◌<◌}
 use mathlib.Core.Bool.{true}

@@ -1,5 +1,6 @@
--- What is claimed of two lists of constants of which one has the other's: added constants, another order, constants taken away; and of rings.
--- For either way, and any table of values beforehand that a claim allows. The proofs are in proofs/Changes.antt.
+-- What is claimed of two lists of constants of which one has the other's: added constants, another order, constants
+-- taken away; and of rings. For either way, and any table of values beforehand that a claim allows. The proofs are in
+-- proofs/Changes.antt.
 -- Assumes nothing.
 use Rattle.std.specs.Prelude.{ℕ, true, false, ◌↔◌, ◌⊎◌, ◌≡◌, ℤ}
 use mathlib.Core.List.{List, Memᴰ}
@@ -32,8 +33,8 @@ NothingOnRings =
     (w : Way) (t : Table) (cs : List Constant) → Distinct cs →
     (c : Constant) (z : ℤ) → SettlesAs w t cs c (some z) → LiesOnRing cs c ⊎ LeadsIntoRing cs c → ⊥
 
--- Extension: a stored constant is stored with the same value, if the names that are added have no value beforehand and it rests on none that is
--- kept
+-- Extension: a stored constant is stored with the same value, if the names that are added have no value beforehand and
+-- it rests on none that is kept
 abbrev pub Extension : Type 0
 Extension =
     (w : Way) (t : Table) (cs ds : List Constant) → Distinct cs → Distinct ds → DeclaresAll ds cs →
@@ -53,7 +54,8 @@ ExtensionKeeps =
     (w : Way) (t : Table) (cs ds : List Constant) → Distinct cs → Distinct ds → DeclaresAll ds cs → NoneBefore t ds →
     (n : ℕ) (z : ℤ) → Stores w t cs n z → Stores w t ds n z
 
--- Another order, over any table: the same names are reached, with the same values or none, and the final table is the same
+-- Another order, over any table: the same names are reached, with the same values or none, and the final table is the
+-- same
 abbrev pub Reordering : Type 0
 Reordering =
     (w : Way) (t : Table) (cs ds : List Constant) → Distinct cs → Distinct ds → DeclaresAll ds cs → DeclaresAll cs ds →
@@ -64,8 +66,8 @@ ReorderingLeavesTable =
     (w : Way) (t : Table) (cs ds : List Constant) → Distinct cs → Distinct ds → DeclaresAll ds cs → DeclaresAll cs ds →
     (one other : Table) → IsFinal w t cs one → IsFinal w t ds other → (n : ℕ) → one n ≡ other n
 
--- Removal, of the names that cs declares and ds does not. Over any table: what is left and avoids them is reached alike, with the same value or
--- none
+-- Removal, of the names that cs declares and ds does not. Over any table: what is left and avoids them is reached
+-- alike, with the same value or none
 abbrev pub RemovalKeeps : Type 0
 RemovalKeeps =
     (w : Way) (t : Table) (cs ds : List Constant) → Distinct cs → Distinct ds → DeclaresAll cs ds →

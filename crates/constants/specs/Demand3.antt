@@ -1,5 +1,5 @@
--- Demand 3, told of what `evaluate_constants` answers and leaves: the proof for every run that keeps the promise is in proofs/Demand3.antt. Words in
--- quotation marks are the demand's or document 01's.
+-- That constants keep their values, told of what `evaluate_constants` answers and leaves: the proof for every run that
+-- keeps the promise is in proofs/Demand3.antt.
 -- Assumes nothing.
 use Rattle.std.specs.Prelude.{ℕ, ◌<◌, Bool, true, false, ◌↔◌, ◌⊎◌, ◌≡◌, ℤ, get_or}
 use mathlib.Core.List.{List, Memᴰ}
@@ -14,14 +14,13 @@ use Rattle.constants.specs.OfBook.{constants}
 use Rattle.constants.specs.SameTrees.{SameExpression}
 use Rattle.constants.specs.Stored.{Stored}
 use Rattle.constants.specs.Leads.{LiesOnRing, LeadsIntoRing}
-use Rattle.constants.specs.Tables.{table_of}
-use Rattle.constants.specs.Evaluated.{outcome_over, Long, Evaluated}
+use Rattle.constants.specs.Evaluated.{table_of, outcome_over, Long, Evaluated}
 
--- the constant n is one "that demand 2 says is stored" for a book, with the value z, "no constant having a value beforehand"
+-- the constant n is one that is stored for a book, with the value z, no constant having a value beforehand
 abbrev pub StoredFor : List ℕ → ℕ → ℤ → Type 0
 StoredFor book n z = Stored each (constants (read book)) n z
 
--- "the second declares every constant of the first with the same expression"
+-- the second declares every constant of the first with the same expression
 abbrev pub DeclaresAllOf : List ℕ → List ℕ → Type 0
 DeclaresAllOf second first =
     (c : Constant) →
@@ -31,7 +30,7 @@ DeclaresAllOf second first =
     × (d.name ≡ c.name)
     × SameExpression (read first) c (read second) d
 
--- "Where none is added": the second adds none to the first
+-- the second adds none to the first
 abbrev pub AddsNoneTo : List ℕ → List ℕ → Type 0
 AddsNoneTo second first =
     (d : Constant) → Memᴰ d (constants (read second)) → declares (constants (read first)) d.name ≡ true
@@ -43,7 +42,7 @@ pub record Evaluation : Type 0 where
   pub stored : List Bool
   pub values : List ℕ
 
--- an evaluation of a book that keeps the promise, whatever arrays were lent, "no constant having a value beforehand"
+-- an evaluation of a book that keeps the promise, whatever arrays were lent, no constant having a value beforehand
 pub record IsOf (book : List ℕ) (x : Evaluation) : Type 0 where
   pub known : List Bool
   pub known' : List Bool
@@ -57,7 +56,8 @@ pub record IsOf (book : List ℕ) (x : Evaluation) : Type 0 where
   pub promise :
       Evaluated (outcome_over book known worth) x.count known known' worth worth' order x.order stored x.stored values x.values
 
--- the name n and the value z stand in the arrays: the record at some number below the count has the name, and its value is marked as stored
+-- the name n and the value z stand in the arrays: the record at some number below the count has the name, and its value
+-- is marked as stored
 pub record StandsIn (book : List ℕ) (x : Evaluation) (n : ℕ) (z : ℤ) : Type 0 where
   pub number : ℕ
   pub counted : number < x.count
@@ -68,7 +68,7 @@ pub record StandsIn (book : List ℕ) (x : Evaluation) (n : ℕ) (z : ℤ) : Typ
 -- of one accepted book
 pub record OfEach (book : List ℕ) (x : Evaluation) : Type 0 where
   pub exactly : (n : ℕ) (z : ℤ) → StandsIn book x n z ↔ StoredFor book n z
-  -- "no accepted book itself stores a constant that lies on a ring of its references or leads into one"
+  -- no constant that lies on a ring of references, or leads into one, is stored
   pub no_ring :
       (c : Constant) →
       Memᴰ c (constants (read book)) →
@@ -77,15 +77,15 @@ pub record OfEach (book : List ℕ) (x : Evaluation) : Type 0 where
       StandsIn book x c.name z →
       ⊥
 
--- of two accepted books, "where the second declares every constant of the first with the same expression"
+-- of two accepted books, of which the second declares every constant of the first with the same expression
 pub record OfBoth (first second : List ℕ) (x y : Evaluation) : Type 0 where
-  -- "every constant that demand 2 says is stored for the first is stored for the second, with the same value"
+  -- what is stored for the first is stored for the second, with the same value
   pub kept :
       (n : ℕ) (z : ℤ) → StoredFor first n z → StoredFor second n z × StandsIn first x n z × StandsIn second y n z
-  -- "Where none is added, the two store exactly the same names with the same values."
+  -- where the second adds none, both store exactly the same names with the same values
   pub same : AddsNoneTo second first → (n : ℕ) (z : ℤ) → StandsIn first x n z ↔ StandsIn second y n z
 
--- "Take any two books, both accepted [..]"
+-- both, of every book that is accepted and of every two
 pub record Demand3 : Type 0 where
   pub of_each :
       (book : List ℕ) (x : Evaluation) → AreBytes book → first_refusal book ≡ none → IsOf book x → OfEach book x

@@ -1,4 +1,5 @@
--- The value of an expression: `eval_const_expr` of the original. Words in quotation marks are document 01's.
+-- The value of an expression: `eval_const_expr` of the original. Words in quotation marks are rules of docs/FORMAT.md
+-- in brief.
 -- Assumes nothing.
 use Rattle.std.specs.Prelude.{ℕ, cond, eqb, ℤ}
 use Rattle.std.proofs.Math.Option.{Option, some, none}

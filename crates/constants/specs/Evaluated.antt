@@ -1,15 +1,30 @@
--- The promise of `evaluate_constants`: what it answers and leaves, for a book and a table of values beforehand. Words in quotation marks are
--- document 01's.
+-- An evaluation over arrays of marks and bits: what it answers and leaves, for a book and a table of values
+-- beforehand. Words in quotation marks are rules of docs/FORMAT.md in brief.
 -- Assumes nothing.
-use Rattle.std.specs.Prelude.{ℕ, ◌≤◌, Bool, true, false, List, [], ◌∷◌, ◌++◌, map, ◌≡◌, ℤ, length, drop, set}
+use Rattle.std.specs.Prelude.{ℕ, ◌≤◌, ◌<◌, cond, get_or, Bool, true, false, List, [], ◌∷◌, ◌++◌, map, ◌≡◌, ℤ, length, drop, set}
 use Rattle.std.proofs.Math.Option.{Option, some, none}
-use Rattle.arith.specs.Word.{word}
+use Rattle.arith.specs.Word.{signed, word}
+use Rattle.book.specs.Blocks.{record_count, records}
+use Rattle.book.specs.Faults.{record_of}
+use Rattle.book.specs.Trees.{Readable}
 use Rattle.book.specs.Outline.{read}
-use Rattle.constants.specs.Eval.{eval_const_expr}
-use Rattle.constants.specs.Order.{Constant, Settled, each, outcome}
+use Rattle.constants.specs.Eval.{Table}
+use Rattle.constants.specs.Order.{Settled, each, outcome}
 use Rattle.constants.specs.OfBook.{constants}
-use Rattle.constants.specs.Values.{IsI64}
-use Rattle.constants.specs.Tables.{table_of, NamesBelow, never}
+
+-- the values of names, from the arrays that hold them: which names have one, and its 64 bits
+unfoldable pub table_of : List Bool → List ℕ → Table
+table_of known worth n = cond (get_or known n false) (some (signed (get_or worth n 0))) none
+
+-- record n of a readable book is a constant
+pub record IsConstant (book : List ℕ) (n : ℕ) : Type 0 where
+  pub readable : Readable book
+  pub here : n < record_count book
+  pub kind : (record_of (records book) n).kind ≡ 24
+
+-- the names of a book's constants are below a number
+abbrev pub NamesBelow : List ℕ → ℕ → Type 0
+NamesBelow book most = (n : ℕ) → IsConstant book n → (record_of (records book) n).a < most
 
 -- xs at the front of a list, the rest as it is
 unfoldable pub filled : {A : Type 0} → List A → List A → List A
@@ -36,19 +51,6 @@ unfoldable pub worth_then : ℕ → Option ℤ → List ℕ → List ℕ
 worth_then name (some z) worth = set worth name (word z)
 worth_then name none worth = worth
 
--- constant i is settled as number k of the order: it is done, and its value or none stands in the arrays
-pub record Settles
-    (c : Constant) (i k : ℕ) (undone undone' : List Bool) (waits waits' : List ℕ) (known known' : List Bool) (worth worth' : List ℕ)
-    (order order' : List ℕ) (stored stored' : List Bool) (values values' : List ℕ) : Type 0 where
-  pub undone_is : undone' ≡ set undone c.name false
-  pub waits_are : waits' ≡ set waits i never
-  pub known_is : known' ≡ known_then c.name (eval_const_expr (table_of known worth) c.expr) known
-  pub worth_is : worth' ≡ worth_then c.name (eval_const_expr (table_of known worth) c.expr) worth
-  pub order_is : order' ≡ set order k c.place
-  pub stored_is : stored' ≡ set stored k (has_value (eval_const_expr (table_of known worth) c.expr))
-  pub values_are : values' ≡ set values k (value_or_0 (eval_const_expr (table_of known worth) c.expr))
-  pub is_i64 : IsI64 (eval_const_expr (table_of known worth) c.expr)
-
 -- and when some were, one after the other
 unfoldable pub known_behind : List Settled → List Bool → List Bool
 known_behind [] known = known
@@ -58,7 +60,8 @@ unfoldable pub worth_behind : List Settled → List ℕ → List ℕ
 worth_behind [] worth = worth
 worth_behind (x ∷ xs) worth = worth_behind xs (worth_then x.constant.name x.value worth)
 
--- the constants of a book with their values, over a table beforehand that arrays hold: the first says which names have a value, the second its bits
+-- the constants of a book with their values, over a table beforehand that arrays hold: the first says which names have
+-- a value, the second its bits
 unfoldable pub outcome_over : List ℕ → List Bool → List ℕ → List Settled
 outcome_over book known worth = outcome each (table_of known worth) (constants (read book))
 
@@ -70,8 +73,8 @@ pub record Long (book : List ℕ) (m : ℕ) (known : List Bool) (worth order : L
   pub stored_is : m ≤ length stored
   pub values_are : m ≤ length values
 
--- what is left: the reached constants in their order, each by its record number, whether it is stored, and its value or 0; behind them the arrays
--- are as lent. The values stored stand under their names.
+-- what is left: the reached constants in their order, each by its record number, whether it is stored, and its value or
+-- 0; behind them the arrays are as lent. The values stored stand under their names.
 pub record Evaluated
     (xs : List Settled) (n : ℕ) (known known' : List Bool) (worth worth' order order' : List ℕ) (stored stored' : List Bool)
     (values values' : List ℕ) : Type 0 where

@@ -1,5 +1,5 @@
--- What any run of `evaluate` stores, told of the order that it leaves: the proof for every run that keeps the promise is in
--- proofs/Evaluations.antt. Words in quotation marks are those of docs/FORMAT.md.
+-- What any run of `evaluate` stores, told of the order that it leaves: the proof for every run that keeps the promise
+-- is in proofs/Evaluations.antt.
 -- Assumes nothing.
 use Rattle.std.specs.Prelude.{ℕ, ◌↔◌, ◌⊎◌, ◌≡◌, map, ℤ, Option, Some}
 use mathlib.Core.List.{List, Memᴰ}
@@ -13,7 +13,8 @@ use Rattle.constants.specs.Demand3.{StoredFor, DeclaresAllOf, AddsNoneTo}
 use Rattle.constants.specs.declared.reached.Settled.{Settled}
 use Rattle.constants.specs.Given.{table_in, told}
 
--- the order that an evaluation of a book leaves, which keeps the promise, none being there before and no constant having a value beforehand
+-- the order that an evaluation of a book leaves, which keeps the promise, none being there before and no constant
+-- having a value beforehand
 pub record IsLeftOf (book : List ℕ) (order : List Settled) : Type 0 where
   pub values : List (Option ℤ)
   pub none_before : (n : ℕ) → table_in values n ≡ none
@@ -26,7 +27,8 @@ pub record StandsIn (book : List ℕ) (order : List Settled) (n : ℕ) (z : ℤ)
   pub name : (read book ! settled.place).a ≡ n
   pub value : settled.value ≡ Some z
 
--- of one accepted book: exactly what is stored for it stands there, and no constant that lies on a ring or leads into one
+-- of one accepted book: exactly what is stored for it stands there, and no constant that lies on a ring or leads into
+-- one
 pub record OfEach (book : List ℕ) (order : List Settled) : Type 0 where
   pub exactly : (n : ℕ) (z : ℤ) → StandsIn book order n z ↔ StoredFor book n z
   pub no_ring :
@@ -37,8 +39,9 @@ pub record OfEach (book : List ℕ) (order : List Settled) : Type 0 where
       StandsIn book order c.name z →
       ⊥
 
--- of two accepted books, where the second declares every constant of the first with the same expression: what is stored for the first is stored
--- for the second, with the same value; and where the second adds none, the two store exactly the same names with the same values
+-- of two accepted books, where the second declares every constant of the first with the same expression: what is stored
+-- for the first is stored for the second, with the same value; and where the second adds none, the two store exactly
+-- the same names with the same values
 pub record OfBoth (first second : List ℕ) (left right : List Settled) : Type 0 where
   pub kept :
       (n : ℕ) (z : ℤ) → StoredFor first n z → StoredFor second n z × StandsIn first left n z × StandsIn second right n z

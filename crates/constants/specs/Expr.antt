@@ -1,4 +1,4 @@
--- Expressions of constants: `ConstExpr` of the original. Words in quotation marks are document 01's.
+-- Expressions of constants: `ConstExpr` of the original. Words in quotation marks are rules of docs/FORMAT.md in brief.
 -- Assumes nothing.
 use Rattle.std.specs.Prelude.{ℕ, zero, suc, true, false, List, [], ◌∷◌, ◌++◌, get_or}
 use Rattle.record.specs.declared.Record.{Record}

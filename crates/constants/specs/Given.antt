@@ -18,7 +18,7 @@ answered (some z) = Some z
 answered none = None
 
 -- one more of at most so many
-unfoldable pub pushed : ℕ → List Settled → Settled → List Settled
+unfoldable pub pushed : {A : Type 0} → ℕ → List A → A → List A
 pushed most l x = cond (ltb (length l) most) (l ++ (x ∷ [])) l
 
 -- what is left of a constant that is settled

@@ -1,4 +1,4 @@
--- Which constants lead to which, and rings. Words in quotation marks are document 01's.
+-- Which constants lead to which, and rings. Words in quotation marks are rules of docs/FORMAT.md in brief.
 -- Assumes nothing.
 use Rattle.std.specs.Prelude.{true, ◌≡◌}
 use mathlib.Core.List.{List, Memᴰ}

@@ -1,4 +1,4 @@
--- The constants of a book. Words in quotation marks are document 01's.
+-- The constants of a book. Words in quotation marks are rules of docs/FORMAT.md in brief.
 -- Assumes nothing.
 use Rattle.std.specs.Prelude.{ℕ, List, map}
 use Rattle.book.specs.Faults.{is_kind}

@@ -1,5 +1,5 @@
--- Which constants are reached, in which order, and what each is worth: `evaluate_constants` of the original, with its order fixed. Words in
--- quotation marks are document 01's.
+-- Which constants are reached, in which order, and what each is worth: `evaluate_constants` of the original, with its
+-- order fixed. Words in quotation marks are rules of docs/FORMAT.md in brief.
 -- Assumes nothing.
 use Rattle.std.specs.Prelude.{ℕ, zero, suc, Bool, true, false, not, ◌&&◌, ◌≡◌, eqb, ℤ, length}
 use mathlib.Core.List.{List, [], ◌∷◌, Memᴰ}
@@ -14,7 +14,8 @@ pub record Constant : Type 0 where
   pub name : ℕ
   pub expr : Expr
 
--- how a name counts that an expression names more than once. Document 01 says `each` time; `once` is for a second way to lower.
+-- how a name counts that an expression names more than once. By the format `each` time; `once` is for a second way to
+-- lower.
 pub data Way : Type 0 where
   each once : Way
 
@@ -40,7 +41,8 @@ unfoldable pub admits : Way → List Constant → Constant → Bool
 admits each cs c = not (repeats (declared_refs cs c))
 admits once cs c = true
 
--- "A constant is reached if its expression names no declared constant twice and all those it names are reached (least such set)"
+-- "A constant is reached if its expression names no declared constant twice and all those it names are reached (least
+-- such set)"
 pub data Reached (w : Way) (cs : List Constant) : Constant → Type 0 where
   reached :
       {c : Constant} →

@@ -1,4 +1,5 @@
--- When two expressions are the same, told from the records. Words in quotation marks are document 01's.
+-- When two expressions are the same, told from the records. Words in quotation marks are rules of docs/FORMAT.md in
+-- brief.
 -- Assumes nothing.
 use Rattle.std.specs.Prelude.{ℕ, ◌<◌, true, false, cond, ◌↔◌, ◌≡◌, length}
 use mathlib.Core.List.{List, [], ◌∷◌, Memᴰ}
@@ -32,7 +33,8 @@ pub record Seen : Type 0 where
 unfoldable pub seen : Record → Seen
 seen r = record { kind = r.kind; sub = r.sub; v = r.v; referenced = cond (is_kind 11 r) (some r.a) none }
 
--- what stands at a place of the tree at record n; a place is the way down to it, and there is nothing below what is no operation
+-- what stands at a place of the tree at record n; a place is the way down to it, and there is nothing below what is no
+-- operation
 unfoldable pub stands_at : List Record → ℕ → List Side → Option Seen
 stands_at rs n [] = some (seen (record_of rs n))
 stands_at rs n (side ∷ way) =

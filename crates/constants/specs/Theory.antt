@@ -1,5 +1,6 @@
--- What is claimed of lists of constants with distinct names, for either way of counting repeated names and any table of values beforehand; no
--- bytes. The proofs are in proofs/Order.antt and proofs/Final.antt. Words in quotation marks are document 01's.
+-- What is claimed of lists of constants with distinct names, for either way of counting repeated names and any table of
+-- values beforehand; no bytes. The proofs are in proofs/Order.antt and proofs/Final.antt. Words in quotation marks are
+-- rules of docs/FORMAT.md in brief.
 -- Assumes nothing.
 use Rattle.std.specs.Prelude.{ℕ, true, false, ◌↔◌, ◌≡◌, ℤ}
 use mathlib.Core.List.{List, [], ◌∷◌, ◌++◌, Memᴰ}
@@ -13,8 +14,9 @@ use Rattle.constants.specs.Stored.{Stored}
 abbrev pub Distinct : List Constant → Type 0
 Distinct cs = (c d : Constant) → Memᴰ c cs → Memᴰ d cs → c.name ≡ d.name → c ≡ d
 
--- The order. `taken` is an order in which what is left may be done when `done` is done: each constant is ready in its turn, and behind the last none
--- is. The original takes one of these, as its hash map has it; `order` always takes the earliest.
+-- The order. `taken` is an order in which what is left may be done when `done` is done: each constant is ready in its
+-- turn, and behind the last none is. The original takes one of these, as its hash map has it; `order` always takes the
+-- earliest.
 abbrev pub InTurn : Way → List Constant → List ℕ → List Constant → Type 0
 InTurn w cs done [] = (c : Constant) → Memᴰ c cs → ready w cs done c ≡ false
 InTurn w cs done (c ∷ taken) = Memᴰ c cs × (ready w cs done c ≡ true) × InTurn w cs (c.name ∷ done) taken
@@ -33,7 +35,8 @@ abbrev pub OrderTakesReached : Type 0
 OrderTakesReached =
     (w : Way) (cs : List Constant) → Distinct cs → (c : Constant) → Memᴰ c (order w cs) ↔ Reached w cs c
 
--- "least such set": whatever holds of a constant that is admitted, if it holds of those that it names, holds of the reached ones
+-- "least such set": whatever holds of a constant that is admitted, if it holds of those that it names, holds of the
+-- reached ones
 abbrev pub ReachedIsLeast : Type 1
 ReachedIsLeast =
     (w : Way) (cs : List Constant) (P : Constant → Type 0) →
@@ -46,8 +49,8 @@ abbrev pub done_by : List Constant → List ℕ → List ℕ
 done_by [] done = done
 done_by (c ∷ taken) done = done_by taken (c.name ∷ done)
 
--- "always the earliest reached one whose declared references are done": what is ready behind those taken so far is what is reached, not taken, and
--- names of the declared only what is taken
+-- "always the earliest reached one whose declared references are done": what is ready behind those taken so far is what
+-- is reached, not taken, and names of the declared only what is taken
 abbrev pub ReadyIsReached : Type 0
 ReadyIsReached =
     (w : Way) (cs : List Constant) → Distinct cs → (taken rest : List Constant) → InTurn w cs [] (taken ++ rest) →
@@ -57,7 +60,8 @@ ReadyIsReached =
     × (Memᴰ c taken → ⊥)
     × ((d : Constant) → Memᴰ d cs → has d.name (refs c.expr) ≡ true → Memᴰ d taken))
 
--- and the earliest of these is taken: when c is taken behind `taken`, it is ready (`OrderIsInTurn`), and nothing that stands before it is
+-- and the earliest of these is taken: when c is taken behind `taken`, it is ready (`OrderIsInTurn`), and nothing that
+-- stands before it is
 abbrev pub OrderTakesEarliest : Type 0
 OrderTakesEarliest =
     (w : Way) (cs taken rest : List Constant) (c : Constant) → order w cs ≡ taken ++ (c ∷ rest) →
@@ -79,13 +83,14 @@ unfoldable pub after : Table → List Constant → Table
 after t [] = t
 after t (c ∷ cs) = after (store t c.name (eval_const_expr t c.expr)) cs
 
--- what the final table is, without an order: a reached constant has the value of its expression over this very table, or else what it had
--- beforehand; every other name has what it had
+-- what the final table is, without an order: a reached constant has the value of its expression over this very table,
+-- or else what it had beforehand; every other name has what it had
 pub record IsFinal (w : Way) (t : Table) (cs : List Constant) (final : Table) : Type 0 where
   pub own : (c : Constant) → Reached w cs c → final c.name ≡ or_else (eval_const_expr final c.expr) (t c.name)
   pub other : (n : ℕ) → ((c : Constant) → Reached w cs c → c.name ≡ n → ⊥) → final n ≡ t n
 
--- whatever the order: the table behind it is that one, there is no other, and each constant has the value of its expression over it
+-- whatever the order: the table behind it is that one, there is no other, and each constant has the value of its
+-- expression over it
 abbrev pub AnyOrderIsFinal : Type 0
 AnyOrderIsFinal =
     (w : Way) (t : Table) (cs : List Constant) → Distinct cs → (taken : List Constant) → InTurn w cs [] taken →
@@ -121,7 +126,7 @@ FinalHasTheStored =
     (w : Way) (t : Table) (cs : List Constant) → Distinct cs → (final : Table) → IsFinal w t cs final → (n : ℕ) →
     ((z : ℤ) → Stores w t cs n z → final n ≡ some z) × (((z : ℤ) → Stores w t cs n z → ⊥) → final n ≡ t n)
 
--- what is stored where no constant has a value beforehand is document 01's "stored"
+-- what is stored where no constant has a value beforehand is what `Stored` says
 abbrev pub StoresTheStored : Type 0
 StoresTheStored =
     (w : Way) (cs : List Constant) → Distinct cs → (n : ℕ) (z : ℤ) → Stores w empty cs n z ↔ Stored w cs n z

@@ -1,9 +1,11 @@
 -- Expressions as the code takes them apart: a record by its kind, and the tree of the records below it.
 -- Assumes nothing.
-use Rattle.std.specs.Prelude.{ℕ, zero, suc, cond, ◌&&◌, ◌<◌, eqb, ltb}
+use Rattle.std.specs.Prelude.{ℕ, zero, suc, cond, ◌&&◌, ◌<◌, ltb, [], ◌∷◌, get_or, Result, Ok}
 use Rattle.record.specs.declared.Record.{Record}
+use Rattle.record.specs.declared.kind.Kind.{Kind}
 use Rattle.record.specs.declared.kind.Kind.TheVariants.{Literal, Reference, Operation}
-use Rattle.record.specs.Kind.{code_of}
+use Rattle.record.specs.declared.kind.UnknownKind.{UnknownKind}
+use Rattle.record.specs.Kind.{kind_from}
 use Rattle.book.specs.Outline.{Book, ◌!◌}
 use Rattle.constants.specs.declared.tree.Node.{Node}
 use Rattle.constants.specs.declared.tree.Node.TheVariants.{Value, Name, Sides, Other}
@@ -13,8 +15,7 @@ use Rattle.constants.specs.declared.tree.BinOp.{BinOp}
 use Rattle.constants.specs.declared.tree.BinOp.TheVariants.{Add, Sub, Mul, Div, Eq, Ne, Lt, Le, Gt, Ge}
 use Rattle.constants.specs.Expr as expr
 use Rattle.constants.specs.Expr.{int, uint, float, hex, bool, Op, add, sub, mul, div, eq, ne, lt, le, gt, ge}
-use Rattle.constants.specs.Expr.{Expr, literal, reference, operation, literal_of, op_of}
-use Rattle.std.specs.Prelude.{◌≡◌}
+use Rattle.constants.specs.Expr.{Expr, literal, reference, operation}
 
 -- literals and operations, as the definitions name them
 abbrev pub literal_named : code.Literal → expr.Literal
@@ -37,30 +38,33 @@ op_named Gt = gt
 op_named Ge = ge
 
 -- what a sub gives
-abbrev pub IsLiteral : ℕ → code.Literal → Type 0
-IsLiteral s l = literal_named l ≡ literal_of s
+abbrev pub literal_by : ℕ → code.Literal
+literal_by s = get_or (Int ∷ UInt ∷ Float ∷ Hex ∷ Truth ∷ []) s Truth
 
-abbrev pub IsOp : ℕ → BinOp → Type 0
-IsOp s o = op_named o ≡ op_of s
+abbrev pub op_by : ℕ → BinOp
+op_by s = get_or (Add ∷ Sub ∷ Mul ∷ Div ∷ Eq ∷ Ne ∷ Lt ∷ Le ∷ Gt ∷ Ge ∷ []) s Ge
 
 -- a record by its kind
+abbrev pub node_by : Record → Result Kind UnknownKind → Node
+node_by r (Ok Reference) = Name r.a
+node_by r (Ok Literal) = Value (literal_by r.sub) r.v
+node_by r (Ok Operation) = Sides (op_by r.sub) r.a r.b
+node_by r kind = Other
+
 abbrev pub node_of : Record → Node
-node_of r =
-    cond (eqb r.kind (code_of Reference)) (Name r.a)
-    (cond (eqb r.kind (code_of Literal)) (Value r.sub r.v)
-    (cond (eqb r.kind (code_of Operation)) (Sides r.sub r.a r.b) Other))
+node_of r = node_by r (kind_from r.kind)
 
 abbrev pub SidesEarlier : ℕ → Node → Type 0
-SidesEarlier n (Value s v) = Unit {0}
+SidesEarlier n (Value l v) = Unit {0}
 SidesEarlier n (Name a) = Unit {0}
-SidesEarlier n (Sides s a b) = (a < n) × (b < n)
+SidesEarlier n (Sides o a b) = (a < n) × (b < n)
 SidesEarlier n Other = Unit {0}
 
 -- the expression that the record at n gives, from the trees of its sides, which are earlier records
 unfoldable pub expr_by : (ℕ → Expr) → ℕ → Node → Expr
-expr_by tree n (Value s v) = literal (literal_of s) v
+expr_by tree n (Value l v) = literal (literal_named l) v
 expr_by tree n (Name a) = reference a
-expr_by tree n (Sides s a b) = cond (ltb a n && ltb b n) (operation (op_of s) (tree a) (tree b)) (literal bool 0)
+expr_by tree n (Sides o a b) = cond (ltb a n && ltb b n) (operation (op_named o) (tree a) (tree b)) (literal bool 0)
 expr_by tree n Other = literal bool 0
 
 -- so many levels of the tree at record n, and as many as it has

@@ -17,8 +17,11 @@ pub mod reached;
 mod tree;
 mod works;
 
-/// Evaluates the constants of a book with these declarations, over values of names beforehand. The reached constants come
-/// last in the order, each with its value if it has one. Each value is put under its name.
+/// Evaluates the constants of a book with these declarations, over values of names beforehand. The reached constants
+/// come last in the order, each with its value if it has one. Each value is put under its name. Values and order are
+/// the caller's, each by itself. Kept apart from what calls it, whose loops over the records of a book have more
+/// registers without it.
+#[inline(never)]
 pub fn evaluate<const N: usize, const R: usize>(
     book: &Book<'_>,
     declarations: &[u16],

@@ -3,30 +3,16 @@
 ghost use Rattle.std.specs.Prelude.{◌≡◌};
 ghost use Rattle.arith.specs.Checked.{answer};
 ghost use Rattle.book.specs.Outline.{◌!◌};
-ghost use Rattle.constants.specs.Expr.{literal_of, op_of};
 ghost use Rattle.constants.specs.Eval.{literal_value, apply, eval_const_expr};
 ghost use Rattle.constants.specs.Given.{table_in};
-ghost use Rattle.constants.specs.Tree.{node_of, SidesEarlier, literal_named, op_named, IsLiteral, IsOp, tree};
+ghost use Rattle.constants.specs.Tree.{node_of, SidesEarlier, literal_named, op_named, literal_by, op_by, tree};
 
 use crate::reached::Values;
 use book::readable::Book;
 use record::Record;
 use record::kind::Kind;
 
-/// A record of an expression.
-#[derive(Clone, Copy)]
-pub(crate) enum Node {
-    /// A literal: its sub and its 64 bits.
-    Value(u8, u64),
-    /// A reference to a name.
-    Name(u16),
-    /// An operation: its sub, and the records of its sides.
-    Sides(u8, u16, u16),
-    /// The record is of no expression.
-    Other,
-}
-
-/// What a literal is, by its sub.
+/// What a literal is, by its sub. An accepted record has one of the subs 0 to 4.
 #[derive(Clone, Copy)]
 pub(crate) enum Literal {
     Int,
@@ -37,7 +23,7 @@ pub(crate) enum Literal {
 }
 
 impl From<u8> for Literal {
-    ghost from_gives = { IsLiteral };
+    ghost from_gives = { λ sub literal. literal ≡ literal_by sub };
 
     #[tactic(auto, using(crate::proofs::Trees::leaves))]
     fn from(sub: u8) -> Literal {
@@ -51,7 +37,7 @@ impl From<u8> for Literal {
     }
 }
 
-/// What an operation does, by its sub.
+/// What an operation does, by its sub. An accepted record has one of the subs 0 to 9.
 #[derive(Clone, Copy)]
 pub(crate) enum BinOp {
     Add,
@@ -67,7 +53,7 @@ pub(crate) enum BinOp {
 }
 
 impl From<u8> for BinOp {
-    ghost from_gives = { IsOp };
+    ghost from_gives = { λ sub op. op ≡ op_by sub };
 
     #[tactic(auto, using(crate::proofs::Trees::leaves))]
     fn from(sub: u8) -> BinOp {
@@ -86,19 +72,29 @@ impl From<u8> for BinOp {
     }
 }
 
-// A record, taken apart: by the bytes of kinds, since reading the byte as a kind first takes twice the time.
+/// A record of an expression.
+#[derive(Clone, Copy)]
+pub(crate) enum Node {
+    /// A literal, and its 64 bits.
+    Value(Literal, u64),
+    /// A reference to a name.
+    Name(u16),
+    /// An operation, and the records of its sides.
+    Sides(BinOp, u16, u16),
+    /// The record is of no expression.
+    Other,
+}
+
+// A record, taken apart.
 #[inline(always)]
 fn node_of(r: Record) -> Node
     ensures { result ≡ node_of r }
 {
-    if r.kind == Kind::Reference.code() {
-        Node::Name(r.a)
-    } else if r.kind == Kind::Literal.code() {
-        Node::Value(r.sub, r.v)
-    } else if r.kind == Kind::Operation.code() {
-        Node::Sides(r.sub, r.a, r.b)
-    } else {
-        Node::Other
+    match r.kind() {
+        Ok(Kind::Reference) => Node::Name(r.a),
+        Ok(Kind::Literal) => Node::Value(Literal::from(r.sub), r.v),
+        Ok(Kind::Operation) => Node::Sides(BinOp::from(r.sub), r.a, r.b),
+        _ => Node::Other,
     }
 }
 
@@ -146,12 +142,12 @@ pub(crate) fn eval_const_expr<const N: usize>(
     ensures { answer result ≡ eval_const_expr (table_in values.now.values) (tree book.now n) }
 {
     match take_apart(book, n) {
-        Node::Value(sub, bits) => literal_value(Literal::from(sub), bits),
+        Node::Value(literal, bits) => literal_value(literal, bits),
         Node::Name(name) => values.of(name),
-        Node::Sides(sub, left, right) => {
+        Node::Sides(op, left, right) => {
             let x = eval_const_expr(book, left, values)?;
             let y = eval_const_expr(book, right, values)?;
-            apply(BinOp::from(sub), x, y)
+            apply(op, x, y)
         }
         Node::Other => None,
     }

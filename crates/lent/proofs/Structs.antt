@@ -1,4 +1,5 @@
--- Structs as bytes: those of records, of zero ones, and a front of some before the rest of others; structs read from bytes.
+-- Structs as bytes: those of records, of zero ones, and a front of some before the rest of others; structs read from
+-- bytes.
 -- Assumes nothing.
 use Prim.Native.Nat.{ℕ, zero, suc, ◌+◌, ◌*◌, ◌^◌, ◌≤◌, ◌<◌}
 use mathlib.Core.List.{List, [], ◌∷◌, ◌++◌, flat_map, map, map-append, append_assoc, append-nil}
@@ -20,11 +21,12 @@ use Rattle.book.proofs.Marks.{up_to_last}
 use Rattle.types.specs.Diagnostic.{IsDiagnostic}
 use Rattle.lower.specs.Laws.{first_records}
 use Rattle.lower.proofs.Slices.{read_back}
-use Rattle.lent.specs.declared.ErrorClass.{ErrorClass}
-use Rattle.lent.specs.declared.ErrorClass.TheVariants.{UnresolvedType, AliasTargetNotFound, ConstRefNotFound}
+use Rattle.types.specs.declared.diagnostic.ErrorClass.{ErrorClass}
+use Rattle.types.specs.declared.diagnostic.ErrorClass.TheVariants.{UnresolvedType, AliasTargetNotFound, ConstRefNotFound}
 use Rattle.lent.specs.declared.Diagnostic.{Diagnostic}
 use Rattle.lent.specs.Laws.{Fits, BytesTellStructs}
-use Rattle.lent.specs.Diagnostics.{class_number, class_of, diagnostic_of, record_of, encoded, no_diagnostic}
+use Rattle.types.specs.Messages.{class_number, class_of}
+use Rattle.lent.specs.Diagnostics.{diagnostic_of, record_of, encoded, no_diagnostic}
 
 -- bytes of records, in two parts and from one of them on
 bytes_append : (rs ss : List Record) → flat_map encode_record (rs ++ ss) ≡ flat_map encode_record rs ++ flat_map encode_record ss
@@ -65,7 +67,6 @@ front_bytes front ds =
 
 -- a diagnostic record is the one that its struct stands for
 class_back : (n : ℕ) → n ≤ 2 → class_number (class_of n) ≡ n
-unfolding class_number class_of
 class_back zero h = refl
 class_back (suc zero) h = refl
 class_back (suc (suc zero)) h = refl
@@ -100,7 +101,7 @@ told_bytes rs ds h =
 
 -- the zero one is 24 zeros
 zero_bytes : (n : ℕ) → flat_map encode_record (map record_of (replicate n no_diagnostic)) ≡ replicate (24 * n) 0
-unfolding flat_map encode_record record_of class_number little_bytes
+unfolding flat_map encode_record record_of little_bytes
 zero_bytes zero = refl
 zero_bytes (suc n) =
     let step : 24 + 24 * n ≡ 24 * suc n = omega arith in
@@ -119,7 +120,7 @@ cleared_bytes n ds =
 
 -- a struct's record is within its widths where the struct is, so the bytes of structs tell them
 record-within : (d : Diagnostic) → Fits d → Within (record_of d)
-unfolding record_of class_number
+unfolding record_of
 record-within d f =
     record {
       kind = f.kind;
@@ -138,7 +139,7 @@ record-within d f =
     by ConstRefNotFound = lit< tt
 
 struct_back : (d : Diagnostic) → diagnostic_of (record_of d) ≡ d
-unfolding record_of diagnostic_of class_number class_of
+unfolding record_of diagnostic_of
 struct_back d =
     λ i.
     record {

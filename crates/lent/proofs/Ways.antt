@@ -1,5 +1,5 @@
--- How a book goes with a diagnostics slice for so many structs, and with any other that has the same used limit: the reply, the results, the counters, the
--- structs at the front, and what is left in the other slice.
+-- How a book goes with a diagnostics slice for so many structs, and with any other that has the same used limit: the
+-- reply, the results, the counters, the structs at the front, and what is left in the other slice.
 -- Assumes nothing.
 use Prim.Native.Nat.{ℕ, ◌*◌, ◌≤◌, min}
 use mathlib.Core.List.{List, [], map}
@@ -54,7 +54,7 @@ count_none n p room bytes h = rw (front_none n p room bytes h)
 pub count_zeros : (n p room : ℕ) (bytes : List ℕ) → 9 ≤ n → min 256 room ≡ length (front (refused n p) bytes room)
 count_zeros n p room bytes h = rw (front_zeros n p room bytes h) (sym (length-replicate (min 256 room) no_diagnostic))
 
--- what `written` ensures, reply by reply
+-- what `front_length` ensures, reply by reply
 pub ruleset counts = (count_told, count_none, count_zeros)
 
 -- the used limit of a diagnostics slice for so many structs
@@ -63,7 +63,8 @@ zeros_room n = let long : length (bytes_for n) ≡ 24 * n = length-replicate (24
 
 -- A book is lowered with a diagnostics slice for so many structs, and with another, s, that has the same used limit
 module _ (book results : List ℕ) (room : ℕ) (s : List ℕ) where
-  -- what both give: the reply, the results, and the counters by those at entry; the structs at the front, and what is left in s
+  -- what both give: the reply, the results, and the counters by those at entry; the structs at the front, and what is
+  -- left in s
   pub record Both (reply : Reply) (results' : List ℕ) (counters : LowerCtx → LowerCtx) (structs : List Diagnostic) (s' : List ℕ) : Type 0 where
     pub reply_is : (as_bytes book results room).reply ≡ reply
     pub results_are : (as_bytes book results room).results ≡ results'

@@ -1,24 +1,13 @@
--- A diagnostic as a struct: which one a record is, and the record that a struct stands for. Words in quotation marks are document 01's.
+-- A diagnostic as a struct: which one a record is, and the record that a struct stands for. Words in quotation marks
+-- are rules of docs/FORMAT.md in brief.
 -- Assumes nothing.
-use Rattle.std.specs.Prelude.{ℕ, zero, suc}
+use Rattle.std.specs.Prelude.{ℕ}
 use mathlib.Core.List.{List, flat_map, map}
 use Rattle.record.specs.declared.Record.{Record}
 use Rattle.record.specs.Layout.{encode_record}
-use Rattle.lent.specs.declared.ErrorClass.{ErrorClass}
-use Rattle.lent.specs.declared.ErrorClass.TheVariants.{UnresolvedType, AliasTargetNotFound, ConstRefNotFound}
+use Rattle.types.specs.declared.diagnostic.ErrorClass.TheVariants.{UnresolvedType}
+use Rattle.types.specs.Messages.{class_number, class_of}
 use Rattle.lent.specs.declared.Diagnostic.{Diagnostic}
-
--- "v 0 `UnresolvedType`, 1 `AliasTargetNotFound` (message 3), 2 `ConstRefNotFound` (message 5)"
-unfoldable pub class_number : ErrorClass → ℕ
-class_number UnresolvedType = 0
-class_number AliasTargetNotFound = 1
-class_number ConstRefNotFound = 2
-
--- and the class by its number; no diagnostic has one above 2
-unfoldable pub class_of : ℕ → ErrorClass
-class_of zero = UnresolvedType
-class_of (suc zero) = AliasTargetNotFound
-class_of (suc (suc n)) = ConstRefNotFound
 
 -- "Diagnostic 50: sub message; a name, in message 2 namespace and b name; v" its class
 unfoldable pub diagnostic_of : Record → Diagnostic
@@ -32,7 +21,7 @@ diagnostic_of r =
       span = r.span;
     }
 
--- the record that a struct stands for; "unused fields" are 0
+-- the record that a struct stands for; unused fields are 0
 unfoldable pub record_of : Diagnostic → Record
 record_of d =
     record {

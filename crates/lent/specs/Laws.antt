@@ -1,4 +1,5 @@
--- What is claimed of `lower_lent`; the proofs are in proofs/Laws.antt and proofs/Structs.antt. Words in quotation marks are document 01's.
+-- What is claimed of `lower_lent`; the proofs are in proofs/Laws.antt and proofs/Structs.antt. Words in quotation marks
+-- are rules of docs/FORMAT.md in brief.
 -- Assumes nothing.
 use Rattle.std.specs.Prelude.{ℕ, ◌≤◌, ◌<◌, ◌^◌, min, List, map, ◌≡◌, length, take, drop, replicate}
 use Rattle.record.specs.Bytes.{AreBytes}
@@ -14,8 +15,8 @@ use Rattle.lent.specs.declared.Diagnostic.{Diagnostic}
 use Rattle.lent.specs.Diagnostics.{diagnostic_of, encoded, no_diagnostic}
 use Rattle.lent.specs.Lent.{LentOutcome, lower_lent, LoweredLent}
 
--- The record form is the byte form: with the bytes of the structs lent, `lower_book` gives the same reply and results, and leaves the bytes of the
--- structs that are left
+-- The record form is the byte form: with the bytes of the structs lent, `lower_book` gives the same reply and results,
+-- and leaves the bytes of the structs that are left
 pub record SameAsBytes (book results : List ℕ) (lent : List Diagnostic) (x : LentOutcome) : Type 0 where
   pub reply_is : x.reply ≡ (lower_book book results (encoded lent)).reply
   pub results_are : x.results ≡ (lower_book book results (encoded lent)).results
@@ -27,8 +28,8 @@ RecordFormIsByteForm =
     (ctx : LowerCtx) (book results : List ℕ) (lent : List Diagnostic) →
     AreBytes book → SameAsBytes book results lent (lower_lent ctx book results lent)
 
--- Over runs: whatever `lower_lent` answered and left, and whatever `lower_book` did with the bytes of the same structs for a diagnostics slice. Each is
--- known by its promise alone
+-- Over runs: whatever `lower_lent` answered and left, and whatever `lower_book` did with the bytes of the same structs
+-- for a diagnostics slice. Each is known by its promise alone
 pub record LentRun : Type 0 where
   pub ctx : LowerCtx
   pub book : List ℕ
@@ -70,8 +71,8 @@ pub record Fits (d : Diagnostic) : Type 0 where
 abbrev pub BytesTellStructs : Type 0
 BytesTellStructs = (ds es : List Diagnostic) → All Fits ds → All Fits es → encoded ds ≡ encoded es → ds ≡ es
 
--- accepted with so many results and diagnostics: the counters are the numbers given and these two; the structs are those of the diagnostics told,
--- and behind them as lent
+-- accepted with so many results and diagnostics: the counters are the numbers given and these two; the structs are
+-- those of the diagnostics told, and behind them as lent
 pub record LeavesStructs (book : List ℕ) (lent : List Diagnostic) (x : LentOutcome) (results diagnostics : ℕ) : Type 0 where
   pub numbers_count : x.ctx.next ≡ numbers_given (read book)
   pub results_count : x.ctx.results ≡ results
@@ -86,7 +87,7 @@ pub record LeavesZeroOnes (lent : List Diagnostic) (x : LentOutcome) : Type 0 wh
   pub zero_ones : take (min 256 (length lent)) x.diagnostics ≡ replicate (min 256 (length lent)) no_diagnostic
   pub rest : drop (min 256 (length lent)) x.diagnostics ≡ drop (min 256 (length lent)) lent
 
--- refused by 1 to 8: "all" is left as it was
+-- refused by 1 to 8: all is left as it was
 pub record LeavesAll (ctx : LowerCtx) (results : List ℕ) (lent : List Diagnostic) (x : LentOutcome) : Type 0 where
   pub counters : x.ctx ≡ ctx
   pub in_results : x.results ≡ results

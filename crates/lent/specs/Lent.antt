@@ -1,5 +1,5 @@
--- The lowering with its counters lent, and its diagnostics as a list of structs: the promises of the entry and of the value form below it.
--- Words in quotation marks are document 01's.
+-- The lowering with its counters lent, and its diagnostics as a list of structs: the promises of the entry and of the
+-- value form below it.
 -- Assumes nothing.
 use Rattle.std.specs.Prelude.{ℕ, ◌*◌, ◌≤◌, min, cond, List, [], ◌++◌, map, ◌≡◌, ltb, length, drop, replicate}
 use Rattle.types.specs.declared.LowerCtx.{LowerCtx}
@@ -34,8 +34,8 @@ pub record LentOutcome : Type 0 where
   pub results : List ℕ
   pub diagnostics : List Diagnostic
 
--- the whole: what `lower_book` gives for a diagnostics slice of 24 times as many bytes, with the structs of its records; the structs behind them
--- stay as lent
+-- the whole: what `lower_book` gives for a diagnostics slice of 24 times as many bytes, with the structs of its
+-- records; the structs behind them stay as lent
 unfoldable pub lower_lent : LowerCtx → List ℕ → List ℕ → List Diagnostic → LentOutcome
 lower_lent ctx book results diagnostics =
     let room : ℕ = length diagnostics in
@@ -46,15 +46,15 @@ lower_lent ctx book results diagnostics =
       diagnostics = front_of book results room ++ drop (length (front_of book results room)) diagnostics;
     }
 
--- THE PROMISE of `lower_lent`, for every book, all counters and every two slices: the reply, the counters and both slices at exit are what `lower_lent`
--- gives for the book, the counters and the slices as lent
+-- THE PROMISE of `lower_lent`, for every book, all counters and every two slices: the reply, the counters and both
+-- slices at exit are what `lower_lent` gives for the book, the counters and the slices as lent
 abbrev pub LoweredLent : LowerCtx → List ℕ → List ℕ → List Diagnostic → Answered → LowerCtx → List ℕ → List Diagnostic → Type 0
 LoweredLent ctx book results diagnostics reply ctx' results' diagnostics' =
     record { reply = reply_of reply; ctx = ctx'; results = results'; diagnostics = diagnostics' }
     ≡ lower_lent ctx book results diagnostics
 
--- the promise of the value form, for a list of so many structs: what `lower_lent` gives for one, and the structs at its front, which are no more than
--- may be told and no more than the list holds
+-- the promise of the value form, for a list of so many structs: what `lower_lent` gives for one, and the structs at its
+-- front, which are no more than may be told and no more than the list holds
 pub record Stepped (ctx : LowerCtx) (book results : List ℕ) (room : ℕ) (x : Step) (results' : List ℕ) : Type 0 where
   pub reply_is : reply_of x.reply ≡ (as_bytes book results room).reply
   pub ctx_is : x.ctx ≡ counters_after ctx book results (bytes_for room)

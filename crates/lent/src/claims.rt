@@ -1,6 +1,10 @@
-//! What is proved of `lower_lent`: each claim is what a function that does nothing ensures.
+//! What is proved of `lower_lent`, and of a default diagnostic: each claim is what a function ensures.
 
+ghost use Rattle.std.specs.Prelude.{◌≡◌};
+ghost use Rattle.lent.specs.Diagnostics.{no_diagnostic};
 ghost use Rattle.lent.specs.Laws.{RecordFormIsByteForm, RunsAgree, BytesTellStructs, StructsAreLeft};
+
+use crate::Diagnostic;
 
 /// With the bytes of the structs lent, `lower_book` gives the same reply and results, and leaves the bytes of the
 /// structs that are left.
@@ -9,7 +13,7 @@ pub fn record_form_is_byte_form()
     ensures { RecordFormIsByteForm }
 {}
 
-/// The same of what `lower_lent` and `lower_book` answered and left.
+/// What `lower_lent` answered and left agrees so with what `lower_book` did.
 #[tactic(auto, using(crate::proofs::Laws::runs_agree))]
 pub fn runs_agree()
     ensures { RunsAgree }
@@ -26,3 +30,10 @@ pub fn bytes_tell_structs()
 pub fn structs_are_left()
     ensures { StructsAreLeft }
 {}
+
+/// The default diagnostic is the zero one, which is none.
+pub fn default_is_none() -> Diagnostic
+    ensures { result ≡ no_diagnostic }
+{
+    Diagnostic::default()
+}

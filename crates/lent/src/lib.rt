@@ -13,21 +13,15 @@ use types::LowerCtx;
 pub mod claims;
 pub mod step;
 
+pub use types::diagnostic::ErrorClass;
+
 /// The most diagnostics that are told.
 pub const MOST: usize = types::MOST_DIAGNOSTICS as usize;
 
-/// The class of a diagnostic, by its name in the source.
-#[derive(Clone, Copy, Debug, Default, PartialEq, Eq, Hash)]
-pub enum ErrorClass {
-    #[default]
-    UnresolvedType,
-    AliasTargetNotFound,
-    ConstRefNotFound,
-}
-
-/// A diagnostic. Its kind is 50; the zero one, of kind 0, is none. `member` is the name behind the namespace `name` in
-/// message 2.
-#[derive(Clone, Copy)]
+/// A diagnostic, field for field as its record: its kind is 50, and the zero one, of kind 0, is none. `member` is the
+/// name behind the namespace `name` in message 2. Kind and message are bytes, so that each record of zeros and each
+/// diagnostic record is a struct.
+#[derive(Clone, Copy, Default)]
 pub struct Diagnostic {
     pub kind: u8,
     pub message: u8,
@@ -35,25 +29,6 @@ pub struct Diagnostic {
     pub member: u16,
     pub class: ErrorClass,
     pub span: Span,
-}
-
-// By hand, since `Span` has no `Default`.
-impl Default for Diagnostic {
-    ghost use Rattle.lent.specs.Diagnostics.{no_diagnostic};
-
-    ghost is_default = { λ d. d ≡ no_diagnostic };
-
-    /// The zero one.
-    fn default() -> Self {
-        Diagnostic {
-            kind: 0,
-            message: 0,
-            name: 0,
-            member: 0,
-            class: ErrorClass::UnresolvedType,
-            span: Span { offset: 0, len: 0 },
-        }
-    }
 }
 
 // Appends what was told to a list of diagnostics that has none yet.

@@ -3,39 +3,23 @@
 ghost use Rattle.std.specs.Prelude.{◌≡◌, List, map, ℕ, ◌≤◌, length};
 ghost use Rattle.lower.specs.Laws.{first_records};
 ghost use Rattle.lower.specs.Promise.{reply_of};
-ghost use Rattle.lent.specs.Diagnostics.{class_of, diagnostic_of};
+ghost use Rattle.lent.specs.Diagnostics.{diagnostic_of};
 ghost use Rattle.lent.specs.Lent.{front, Stepped};
 
 use crate::{Diagnostic, ErrorClass, MOST};
 use arrayvec::ArrayVec;
 use lower::{Counted, Counts};
 use record::refusal::{Cause, Refusal};
-use record::{Record, write};
+use record::{RECORD_BYTES, Record, write};
 use types::LowerCtx;
 
-// A record's bytes.
-const RECORD_BYTES: usize = 24;
-
-/// What lowering a book gives: the counters, the reply, and the diagnostics.
-#[derive(Drop)]
+/// What lowering a book gives: the counters, the reply, and the diagnostics. It is `Clone` and not `Copy`, as an
+/// `ArrayVec` is.
+#[derive(Clone, Drop)]
 pub struct Step {
     pub ctx: LowerCtx,
     pub reply: Result<Counts, Refusal>,
     pub told: ArrayVec<Diagnostic, MOST>,
-}
-
-impl From<u64> for ErrorClass {
-    ghost from_gives = { λ v class. class ≡ class_of v };
-
-    /// The class of a diagnostic by its number.
-    #[tactic(auto, unfolding(crate::specs::Diagnostics::class_of))]
-    fn from(v: u64) -> Self {
-        match v {
-            0 => ErrorClass::UnresolvedType,
-            1 => ErrorClass::AliasTargetNotFound,
-            _ => ErrorClass::ConstRefNotFound,
-        }
-    }
 }
 
 impl From<Record> for Diagnostic {
@@ -55,7 +39,8 @@ impl From<Record> for Diagnostic {
     }
 }
 
-// The structs of the first n records of a slice.
+// The structs of the first n records of a slice. They are pushed, since `collect` and `extend` answer an error where
+// the list is full, which is not so here, and `push` asks that there is room.
 #[tactic(auto, using(crate::proofs::Structs::reading))]
 fn structs(bytes: &[u8], n: u16) -> ArrayVec<Diagnostic, MOST>
     requires { n ≤ MOST }
@@ -71,7 +56,7 @@ fn structs(bytes: &[u8], n: u16) -> ArrayVec<Diagnostic, MOST>
 // How many structs are written at the front of a list: the diagnostics of a book that is accepted, as many zero ones as
 // may be told on 9 and 10, and none on 1 to 8.
 #[tactic(auto, using(crate::proofs::Ways::counts), unfolding(lower::specs::Promise::reply_of))]
-fn written(reply: Result<Counts, Refusal>, room: usize) -> u16
+fn front_length(reply: Result<Counts, Refusal>, room: usize) -> u16
     ensures { (bytes : List ℕ) → result ≡ length (front (reply_of reply) bytes room) }
 {
     match reply {
@@ -93,6 +78,6 @@ pub fn lower_step(ctx: LowerCtx, book: &[u8], results: &mut [u8], room: usize) -
     Step {
         ctx: after,
         reply,
-        told: structs(bytes, written(reply, room)),
+        told: structs(bytes, front_length(reply, room)),
     }
 }

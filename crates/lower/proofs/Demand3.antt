@@ -1,4 +1,5 @@
--- Demand 3 holds of `lower_book`: from the records that stand in the slices to the theory of constants, and back.
+-- Constants keep their values in `lower_book`: from the records that stand in the slices to the theory of constants,
+-- and back.
 -- Assumes nothing.
 use Prim.Native.Nat.{ℕ}
 use mathlib.Core.List.{List}

@@ -20,6 +20,7 @@ use Rattle.types.specs.Numbers.{plain_aliases, register_declarations}
 use Rattle.types.specs.Alias.{lower_alias}
 use Rattle.types.specs.Stands.{Lent, limits, Knows, Stands, Left, cause_of, Ends, Done, Does, Refines}
 use Rattle.types.specs.Tables.{Tables}
+use Rattle.types.specs.Begun.{begun}
 use Rattle.types.specs.Code as code
 use Rattle.types.specs.Events.{go_on}
 use Rattle.types.proofs.Adds.{runs_in_turn}
@@ -32,7 +33,7 @@ use Rattle.lower.specs.LowerBook.{ended, lower_records, lower_read}
 use Rattle.lower.specs.Ended.{LowersRead}
 use Rattle.lower.specs.Counters.{counted}
 use Rattle.lower.specs.Promise.{reply_of, outcome_of}
-use Rattle.lower.specs.Inside.{counters_of, begun, replied, left_by}
+use Rattle.lower.specs.Inside.{counters_of, replied, left_by}
 
 -- what a part leaves, whatever that is worth
 abbrev pub Leaves : Type 1

@@ -1,4 +1,5 @@
--- Demand 3 holds of every run of `lower_book`: by its promise, what a run answered and left is what `lower_book` gives.
+-- Constants keep their values in every run of `lower_book`: by its promise, what a run answered and left is what
+-- `lower_book` gives.
 -- Assumes nothing.
 use mathlib.Core.Path.{◌≡◌, refl, sym, ap, subst}
 use Rattle.std.specs.Prelude.{Ok}

@@ -1,4 +1,5 @@
--- The 41s in the result slice of an accepted book are those of the reached constants; those marked stored have the stored names and values.
+-- The 41s in the result slice of an accepted book are those of the reached constants; those marked stored have the
+-- stored names and values.
 -- Assumes nothing.
 use Prim.Native.Nat.{ℕ}
 use mathlib.Core.Bool.{true}
@@ -41,7 +42,8 @@ reached_are_told book results diagnostics r d c bytes e =
     let left = subst (Leaves book results diagnostics (lower_book book results diagnostics)) e (slices_are_left book results diagnostics bytes) in
     ap constants_in left.results_are ∙ reached_are_written (read book)
 
--- from the 41s of some records and some settled constants, whose values are i64s, to those marked stored and those that are stored
+-- from the 41s of some records and some settled constants, whose values are i64s, to those marked stored and those that
+-- are stored
 module _
     (rs : List Record) (xs : List Settled) (same : constants_in rs ≡ map constant_of xs) (i64s : All (λ x. IsI64 x.value) xs)
     (n : ℕ) (z : ℤ)

@@ -1,4 +1,5 @@
--- No step beyond the 65th, records within their widths, numbers given, diagnostics of their form, and the 41s those of the reached constants.
+-- No step beyond the 65th, records within their widths, numbers given, diagnostics of their form, and the 41s those of
+-- the reached constants.
 -- Assumes nothing.
 use Prim.Native.Nat.{ℕ, suc, ◌^◌, ◌≤◌, ◌<◌}
 use mathlib.Core.Bool.{Bool, true, false}

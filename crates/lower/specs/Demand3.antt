@@ -1,6 +1,6 @@
--- Demand 3, as one claim about any lowering: about the replies and the result slices of any two of its runs, "whatever slices each is lent". It
--- does not say again what demands 1 and 2 do: which books are accepted, and what else is answered and written. The proof for `lower_book` is in
--- proofs/Demand3.antt. Words in quotation marks are the demand's or document 01's.
+-- That constants keep their values, as one claim about any lowering: about the replies and the result slices of any two
+-- of its runs, whatever slices each is lent. Which books are accepted, and what else is answered and written, is
+-- claimed elsewhere (Promise.antt, Laws.antt). The proof for `lower_book` is in proofs/Demand3.antt.
 -- Assumes nothing.
 use Rattle.std.specs.Prelude.{ℕ, true, ◌↔◌, ◌⊎◌, ◌≡◌, ℤ}
 use mathlib.Core.List.{List, Memᴰ}
@@ -20,8 +20,8 @@ use Rattle.lower.specs.Laws.{IsAccepted, first_records}
 abbrev pub AnyLowering : Type 0
 AnyLowering = List ℕ → List ℕ → List ℕ → Outcome
 
--- the name n and the value z "stand as a and v of the 41s marked stored among the results counted": read from the reply and the result slice, v
--- as an i64
+-- the name n and the value z stand as a and v of a 41 marked stored among the results counted: read from the reply and
+-- the result slice, v as an i64
 pub record Stands (x : Outcome) (n : ℕ) (z : ℤ) : Type 0 where
   pub reply : IsAccepted x
   pub entry : Record
@@ -32,9 +32,9 @@ pub record Stands (x : Outcome) (n : ℕ) (z : ℤ) : Type 0 where
 
 -- of one accepted book
 pub record OfEach (book : List ℕ) (x : Outcome) : Type 0 where
-  -- "in each, exactly the stored names and values stand as a and v of the 41s marked stored among the results counted"
+  -- exactly the stored names and values stand as a and v of the 41s marked stored among the results counted
   pub exactly : (n : ℕ) (z : ℤ) → Stands x n z ↔ StoredFor book n z
-  -- "no accepted book itself stores a constant that lies on a ring of its references or leads into one"
+  -- no constant that lies on a ring of references, or leads into one, is stored
   pub no_ring :
       (c : Constant) →
       Memᴰ c (constants (read book)) →
@@ -43,16 +43,16 @@ pub record OfEach (book : List ℕ) (x : Outcome) : Type 0 where
       Stands x c.name z →
       ⊥
 
--- of two accepted books, "where the second declares every constant of the first with the same expression"
+-- of two accepted books, of which the second declares every constant of the first with the same expression
 pub record OfBoth (first second : List ℕ) (x y : Outcome) : Type 0 where
-  -- "every constant that demand 2 says is stored for the first is stored for the second, with the same value"
+  -- what is stored for the first is stored for the second, with the same value
   pub kept :
       (n : ℕ) (z : ℤ) → StoredFor first n z → StoredFor second n z × Stands x n z × Stands y n z
-  -- "Where none is added, the two store exactly the same names with the same values."
+  -- where the second adds none, both store exactly the same names with the same values
   pub same : AddsNoneTo second first → (n : ℕ) (z : ℤ) → Stands x n z ↔ Stands y n z
 
--- "Take any two books, both accepted [..]. Whatever constants the second adds, in whatever order its constants stand, and whatever else in it
--- differs"
+-- the first of every book that is accepted, the second of every two, whatever constants the second adds, in whatever
+-- order its constants stand, and whatever else in it differs
 pub record Demand3 (lower : AnyLowering) : Type 0 where
   pub of_each :
       (book results diagnostics : List ℕ) →

@@ -3,14 +3,14 @@
 use Rattle.std.specs.Prelude.{◌≡◌, ℕ, Bool, ◌&&◌, List, nat_le, Result, Ok, Err, count_by, is_some, length, map}
 use Rattle.record.specs.declared.refusal.Refusal.{Refusal}
 use Rattle.record.specs.Write.{room_for, cleared}
-use Rattle.record.specs.Written.{blank, all_of}
+use Rattle.record.specs.Written.{all_of}
 use Rattle.book.specs.Outline.{Book}
 use Rattle.constants.specs.declared.reached.Settled.{Settled}
 use Rattle.constants.specs.Given.{told}
 use Rattle.constants.specs.OfBook.{settled}
 use Rattle.types.specs.declared.LowerCtx.{LowerCtx}
 use Rattle.types.specs.Below.{names_below}
-use Rattle.types.specs.Tables.{Tables}
+use Rattle.types.specs.Begun.{begun}
 use Rattle.types.specs.Code.{State, Outcome, done, next}
 use Rattle.types.specs.Registry.{nothing_known, registered}
 use Rattle.types.specs.PlainAliases.{lower_aliases}
@@ -40,18 +40,7 @@ lower_parts declarations settled outside s =
     next (lower_aliases declarations s) (λ _ t.
     next (lower_constants settled t) (λ _ u. next (lower_bodies outside u) (λ _ v. done (counters_of v) v)))
 
--- where the parts begin: the names are known, nothing is written, and nothing is being lowered
-abbrev pub begun : Book → Tables → List ℕ → List ℕ → State
-begun book names results diagnostics =
-    record {
-      book = book;
-      names = names;
-      results = blank results 2048;
-      diagnostics = blank diagnostics 256;
-      place = 0;
-    }
-
--- and so with the declarations registered in tables for the names below a number
+-- where the parts begin, with the declarations registered in tables for the names below a number
 abbrev pub entered : ℕ → Book → List ℕ → List ℕ → List ℕ → State
 entered bound book declarations results diagnostics =
     begun book (registered book declarations (nothing_known bound)) results diagnostics

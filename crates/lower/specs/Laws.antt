@@ -1,5 +1,5 @@
--- What is claimed of `lower_book`, for every three lists of bytes; the proofs are in proofs/Laws.antt and proofs/Written.antt. Words in quotation
--- marks are document 01's.
+-- What is claimed of `lower_book`, for every three lists of bytes; the proofs are in proofs/Laws.antt and
+-- proofs/Written.antt. Words in quotation marks are rules of docs/FORMAT.md in brief.
 -- Assumes nothing.
 use Rattle.std.specs.Prelude.{ℕ, ◌*◌, ◌≤◌, true, List, [], map, ◌↔◌, ◌≡◌, length, take, drop, replicate}
 use Rattle.record.specs.declared.Record.{Record}
@@ -30,12 +30,13 @@ pub record Cleared (limit : ℕ) (lent left : List ℕ) : Type 0 where
 unfoldable pub first_records : ℕ → List ℕ → List Record
 first_records n slice = map (λ i. decode_record (drop (24 * i) slice)) (up_to n)
 
--- all that the lowering of a book does, one thing after the other, up to the first step past 64; what the list has behind that is filler
+-- all that the lowering of a book does, one thing after the other, up to the first step past 64; what the list has
+-- behind that is filler
 abbrev pub doings : List ℕ → List Event
 doings book = events (lower_records (settled (read book)) (read book)) 0
 
--- accepted with r results, d diagnostics and c stored constants: the slices hold exactly the records that the lowering writes and tells, within
--- the used limits, and are else as lent; the counts are those of these records
+-- accepted with r results, d diagnostics and c stored constants: the slices hold exactly the records that the lowering
+-- writes and tells, within the used limits, and are else as lent; the counts are those of these records
 pub record LeavesRecords (book results diagnostics : List ℕ) (x : Outcome) (r d c : ℕ) : Type 0 where
   pub results_are : first_records r x.results ≡ written (doings book)
   pub results_count : r ≡ length (written (doings book))
@@ -52,7 +53,7 @@ pub record LeavesZeros (results diagnostics : List ℕ) (x : Outcome) : Type 0 w
   pub in_results : Cleared (room_for 2048 results) results x.results
   pub in_diagnostics : Cleared (room_for 256 diagnostics) diagnostics x.diagnostics
 
--- refused by 1 to 8: all "Left as it was"
+-- refused by 1 to 8: all is left as it was
 pub record LeavesAll (results diagnostics : List ℕ) (x : Outcome) : Type 0 where
   pub in_results : x.results ≡ results
   pub in_diagnostics : x.diagnostics ≡ diagnostics
@@ -75,8 +76,8 @@ SlicesAreLeft =
     (lower_book book results diagnostics)
     (lower_book book results diagnostics).reply
 
--- Which reply is given: a refusal exactly if its row holds and no earlier one does. Rows 1 to 8 are told from the book as it lies there, rows 9
--- and 10 from one thing that its lowering does and the things before it.
+-- Which reply is given: a refusal exactly if its row holds and no earlier one does. Rows 1 to 8 are told from the book
+-- as it lies there, rows 9 and 10 from one thing that its lowering does and the things before it.
 abbrev pub NoRowHolds : List ℕ → Type 0
 NoRowHolds book = (y : Refusal) → has_place book y.cause y.place ≡ true → Holds book y → ⊥
 

@@ -1,5 +1,5 @@
--- The whole: `lower_book`, from three slices to the reply and what is left in the two lent for writing. Words in quotation marks are document
--- 01's.
+-- The whole: `lower_book`, from three slices to the reply and what is left in the two lent for writing. Words in
+-- quotation marks are rules of docs/FORMAT.md in brief.
 -- Assumes nothing.
 use Rattle.std.specs.Prelude.{ℕ, List, length}
 use Rattle.std.proofs.Math.Option.{some, none}
@@ -16,8 +16,8 @@ use Rattle.types.specs.Alias.{lower_alias}
 use Rattle.bodies.specs.Constant.{lower_constants, stored_count}
 use Rattle.bodies.specs.Bodies.{lower_bodies}
 
--- "20-22 numbered from 0, then generic aliases, [..]; plain aliases; constants, [..]; bodies. Each part goes in book order."
--- The constants come as they were settled.
+-- "20-22 numbered from 0, then generic aliases, [..]; plain aliases; constants, [..]; bodies. Each part goes in book
+-- order." The constants come as they were settled.
 unfoldable pub lower_records : List Settled → Book → Lowering (Unit × Names)
 lower_records cs book =
     (for_each (lower_alias book) (plain_aliases book) >> lower_constants book cs >> lower_bodies book)
@@ -27,7 +27,7 @@ lower_records cs book =
 pub data Reply : Type 0 where
   -- "the counts of results, diagnostics and stored constants"
   accepted : ℕ → ℕ → ℕ → Reply
-  -- "Number" and "Returned place"
+  -- the number of the cause, and the place
   refused : ℕ → ℕ → Reply
 
 -- the reply, and both slices as they are left
@@ -57,7 +57,7 @@ lower_read cs book results diagnostics =
     let most : Limits = used_limits results diagnostics in
     ended (stored_count cs) most results diagnostics (run most (lower_records cs book) start)
 
--- causes 1 to 8 leave "all" as it was
+-- causes 1 to 8 leave all as it was
 unfoldable pub lower_book : List ℕ → List ℕ → List ℕ → Outcome
 lower_book book results diagnostics =
     elim (first_refusal book) [

@@ -19,8 +19,8 @@ reply_of (Err refusal) = refused (number_of refusal.cause) refusal.place
 abbrev pub outcome_of : Answered → List ℕ → List ℕ → Outcome
 outcome_of reply results diagnostics = record { reply = reply_of reply; results = results; diagnostics = diagnostics }
 
--- THE PROMISE of `lower_book`, for every book and every two slices: the reply and both slices at exit are what `lower_book` gives for the book and the
--- slices as lent
+-- THE PROMISE of `lower_book`, for every book and every two slices: the reply and both slices at exit are what
+-- `lower_book` gives for the book and the slices as lent
 abbrev pub Lowered : List ℕ → List ℕ → List ℕ → Answered → List ℕ → List ℕ → Type 0
 Lowered book results diagnostics reply results' diagnostics' =
     outcome_of reply results' diagnostics' ≡ lower_book book results diagnostics

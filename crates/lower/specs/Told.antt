@@ -1,5 +1,4 @@
--- What is claimed of the 41s in the result slice of an accepted book; the proofs are in proofs/Told.antt. Words in quotation marks are document
--- 01's.
+-- What is claimed of the 41s in the result slice of an accepted book; the proofs are in proofs/Told.antt.
 -- Assumes nothing.
 use Rattle.std.specs.Prelude.{ℕ, List, map, ◌↔◌, ◌≡◌, ℤ}
 use Rattle.record.specs.Bytes.{AreBytes}

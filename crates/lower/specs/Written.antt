@@ -1,4 +1,5 @@
--- What is claimed of the records that a lowering writes; the proofs are in proofs/Written.antt. Words in quotation marks are document 01's.
+-- What is claimed of the records that a lowering writes; the proofs are in proofs/Written.antt. Words in quotation
+-- marks are rules of docs/FORMAT.md in brief.
 -- Assumes nothing.
 use Rattle.std.specs.Prelude.{ℕ, ◌≤◌, List, ◌∷◌, ◌++◌, map, ◌≡◌, length}
 use Rattle.std.proofs.Math.Option.{none}

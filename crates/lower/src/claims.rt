@@ -14,7 +14,8 @@ pub fn refused_by_its_row()
     ensures { RefusedByItsRow }
 {}
 
-/// It is 9 or 10 exactly if no such row holds, and the first thing that is over a limit is of that row.
+/// The reply is cause 9 or 10 exactly if no row of 1 to 8 holds, and the first thing that is over a limit is of that
+/// row.
 pub fn stopped_by_its_row()
     ensures { StoppedByItsRow }
 {}
@@ -84,7 +85,7 @@ pub fn constants_keep_their_values()
     ensures { Demand3 lower_book }
 {}
 
-/// The same of what any run of `lower_book` answered and left, and of any two.
+/// What any run of `lower_book` answered and left, and any two, keep their constants so.
 #[tactic(auto, using(crate::proofs::Runs::demand_3_over_runs))]
 pub fn runs_keep_their_constants()
     ensures { Demand3OverRuns }

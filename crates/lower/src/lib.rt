@@ -57,12 +57,7 @@ pub fn lower_book(
 ) -> Result<Counts, Refusal>
     ensures { Lowered book.now results.old diagnostics.old result results.new diagnostics.new }
 {
-    let ctx = LowerCtx {
-        next: 0,
-        results: 0,
-        diagnostics: 0,
-    };
-    lower_counted(ctx, book, results, diagnostics).reply
+    lower_counted(LowerCtx::default(), book, results, diagnostics).reply
 }
 
 /// The reply as four words: 0 and the three counts; or the number of the cause, the place, and zeros.

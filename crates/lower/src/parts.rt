@@ -5,16 +5,17 @@ ghost use Rattle.record.specs.Written.{all_of};
 ghost use Rattle.book.specs.Faults.{is_declaration};
 ghost use Rattle.book.specs.Outline.{numbers_of};
 ghost use Rattle.constants.specs.Given.{NamesIn};
-ghost use Rattle.types.specs.Code.{state_of};
+ghost use Rattle.types.specs.Code.{Steps};
 ghost use Rattle.types.specs.Begun.{begun};
+ghost use Rattle.types.specs.Tables.{tables};
 ghost use Rattle.lower.specs.Ended.{LowersRead};
 ghost use Rattle.lower.specs.Inside.{entered, evaluated, fits, lower_parts, lower_whole, valued, replied, left_by, Replies};
 
 use crate::{Counted, Counts};
 use bodies::body::lower_bodies;
 use bodies::reached::lower_constants;
-use book::Book;
 use book::outline::Outline;
+use book::{Book, NAMES, RECORDS};
 use constants::reached::{Order, Settled, Values};
 use record::refusal::Refusal;
 use record::write;
@@ -23,44 +24,40 @@ use types::names::Names;
 use types::room::names_below;
 use types::{LowerCtx, MOST_DIAGNOSTICS, MOST_RESULTS};
 
-// A book of a few blocks has so many records at most, and its names are below this number: then clearing the tables
-// takes less time than lowering it. Tables by name have room for as many pairs, and there is at most one a record.
+// The sizes of tables. A book with at most so many records, whose names are below the same number, takes the smallest:
+// so clearing them takes less time than lowering it.
 const LEAST: usize = 84;
 
-// And a small one so many.
+// A book that does not fit those takes the next, and else the greatest, which have room for any.
 const FEW: usize = 336;
-
-// Each book has so many at most, and names below this number.
-const RECORDS: usize = 1344;
-
-const NAMES: usize = 4096;
 
 // Whether tables for names below `names` and for so many records have room for a book.
 fn fits(book: &Book<'_>, names: usize, records: usize) -> bool
     ensures { result ≡ fits names records book.now }
 {
-    book.len() as usize <= records && names_below(book, names)
+    usize::from(book.len()) <= records && names_below(book, names)
+}
+
+// What is lowered of a book: its declarations, its reached constants, and its declarations and items.
+#[derive(Clone, Copy)]
+struct Parts<'a> {
+    declarations: &'a [u16],
+    settled: &'a [Settled],
+    outside: &'a [u16],
 }
 
 // Lowers plain aliases, constants and bodies, the names being known; the counters behind them.
 #[tactic(auto, unfolding(crate::specs::Inside::lower_parts, record::specs::Written::shown))]
 fn lower_parts<const N: usize>(
     lowering: &mut Lowering<'_, '_, '_, '_, N>,
-    declarations: &[u16],
-    settled: &[Settled],
-    outside: &[u16],
+    parts: Parts<'_>,
 ) -> Result<LowerCtx, Refusal>
-    requires { N ≤ 4096 }
-    ensures answer { result ≡ (lower_parts declarations.now settled.now outside.now (state_of N lowering.old)).answer }
-    ensures state { state_of N lowering.new
-        ≡ (lower_parts declarations.now settled.now outside.now (state_of N lowering.old)).state }
-    ensures names { lowering.new.names.ghost_name ≡ lowering.old.names.ghost_name }
-    ensures results { lowering.new.results.ghost_name ≡ lowering.old.results.ghost_name }
-    ensures diagnostics { lowering.new.diagnostics.ghost_name ≡ lowering.old.diagnostics.ghost_name }
+    ensures { Steps N lowering.old lowering.new result
+        (lower_parts parts.entry.declarations.now parts.entry.settled.now parts.entry.outside.now) }
 {
-    lowering.lower_aliases(declarations)?;
-    lower_constants(lowering, settled)?;
-    lower_bodies(lowering, outside)?;
+    lowering.lower_aliases(parts.declarations)?;
+    lower_constants(lowering, parts.settled)?;
+    lower_bodies(lowering, parts.outside)?;
     Ok(LowerCtx {
         next: lowering.names.next,
         results: lowering.written.count,
@@ -68,62 +65,27 @@ fn lower_parts<const N: usize>(
     })
 }
 
-// The same from the start, into the two slices.
+// The same from the start, into the two slices. They stay two parameters, here and below: a struct over slices that are
+// changed tells its lender nothing of what they hold at the end.
 fn lower_known<const N: usize>(
     book: &Book<'_>,
     names: &mut Names<N>,
-    declarations: &[u16],
-    settled: &[Settled],
-    outside: &[u16],
+    parts: Parts<'_>,
     results: &mut [u8],
     diagnostics: &mut [u8],
 ) -> Result<LowerCtx, Refusal>
-    requires { N ≤ 4096 }
     ensures answer { result
-        ≡ (lower_parts declarations.now settled.now outside.now
-        (begun N book.now names.old results.old diagnostics.old)).answer }
+        ≡ (lower_parts parts.entry.declarations.now parts.entry.settled.now parts.entry.outside.now
+        (begun book.now (tables N names.old) results.old diagnostics.old)).answer }
     ensures results { results.new
-        ≡ all_of (lower_parts declarations.now settled.now outside.now
-        (begun N book.now names.old results.old diagnostics.old)).state.results }
+        ≡ all_of (lower_parts parts.entry.declarations.now parts.entry.settled.now parts.entry.outside.now
+        (begun book.now (tables N names.old) results.old diagnostics.old)).state.results }
     ensures diagnostics { diagnostics.new
-        ≡ all_of (lower_parts declarations.now settled.now outside.now
-        (begun N book.now names.old results.old diagnostics.old)).state.diagnostics }
+        ≡ all_of (lower_parts parts.entry.declarations.now parts.entry.settled.now parts.entry.outside.now
+        (begun book.now (tables N names.old) results.old diagnostics.old)).state.diagnostics }
 {
     let mut lowering = Lowering::new(book, names, results, diagnostics);
-    lower_parts(&mut lowering, declarations, settled, outside)
-}
-
-// The same with the declarations registered first. Tables that a function begins with are cleared once.
-fn lower_named<const N: usize>(
-    book: &Book<'_>,
-    declarations: &[u16],
-    settled: &[Settled],
-    outside: &[u16],
-    results: &mut [u8],
-    diagnostics: &mut [u8],
-) -> Result<LowerCtx, Refusal>
-    requires { N ≤ 4096 }
-    ensures answer { result
-        ≡ (lower_parts declarations.now settled.now outside.now
-        (entered N book.now declarations.now results.old diagnostics.old)).answer }
-    ensures results { results.new
-        ≡ all_of (lower_parts declarations.now settled.now outside.now
-        (entered N book.now declarations.now results.old diagnostics.old)).state.results }
-    ensures diagnostics { diagnostics.new
-        ≡ all_of (lower_parts declarations.now settled.now outside.now
-        (entered N book.now declarations.now results.old diagnostics.old)).state.diagnostics }
-{
-    let mut names = Names::<N>::new();
-    names.register(book, declarations);
-    lower_known(
-        book,
-        &mut names,
-        declarations,
-        settled,
-        outside,
-        results,
-        diagnostics,
-    )
+    lower_parts(&mut lowering, parts)
 }
 
 // How many of some constants have a value.
@@ -158,60 +120,73 @@ fn reply_to(
             write::clear(results, MOST_RESULTS);
             write::clear(diagnostics, MOST_DIAGNOSTICS);
             Counted {
-                ctx: LowerCtx {
-                    next: 0,
-                    results: 0,
-                    diagnostics: 0,
-                },
+                ctx: LowerCtx::default(),
                 reply: Err(refusal),
             }
         }
     }
 }
 
-// Puts the reached constants of a book into an order that is empty.
-fn settle_constants<const N: usize, const R: usize>(
-    book: &Book<'_>,
-    declarations: &[u16],
-    order: &mut Order<R>,
-)
-    requires declarations { declarations.now ≡ numbers_of is_declaration book.now }
-    requires few { N ≤ 4096 }
-    requires names { NamesIn book.now N }
-    requires records { (length book.now.records ≤ R) × (R ≤ 1344) }
-    requires none { order.old ≡ [] }
-    ensures { order.new ≡ evaluated book.now }
-{
-    let mut values = Values::<N>::none();
-    constants::evaluate(book, declarations, &mut values, order);
+// A book, for which tables of names below `N` and of `R` records have room.
+#[derive(Clone, Copy)]
+struct Fitting<'b, const N: usize, const R: usize> {
+    book: &'b Book<'b>,
+    ghost few: { N ≤ 4096 },
+    ghost names: { NamesIn book.now N },
+    ghost records: { (length book.now.records ≤ R) × (R ≤ 1344) },
 }
 
-// Lowers a book that has at most `R` records and names below `N`.
-#[tactic(auto, unfolding(crate::specs::Inside::lower_whole))]
-fn lower_sized<const N: usize, const R: usize>(
-    book: &Book<'_>,
-    results: &mut [u8],
-    diagnostics: &mut [u8],
-) -> Counted
-    requires few { N ≤ 4096 }
-    requires names { NamesIn book.now N }
-    requires records { (length book.now.records ≤ R) × (R ≤ 1344) }
-    ensures { Replies (lower_whole N book.now results.old diagnostics.old) (valued (evaluated book.now))
-        result results.new diagnostics.new }
-{
-    let mut order = Order::<R>::none();
-    let outline = Outline::<R>::of(book);
-    settle_constants::<N, R>(book, outline.declarations(), &mut order);
-    let stored = count_stored(order.settled());
-    let end = lower_named::<N>(
-        book,
-        outline.declarations(),
-        order.settled(),
-        outline.outside(),
-        results,
-        diagnostics,
-    );
-    reply_to(end, stored, results, diagnostics)
+impl<'b, const N: usize, const R: usize> Fitting<'b, N, R> {
+    // Puts the reached constants into an order that is empty.
+    fn settle_constants(&self, declarations: &[u16], order: &mut Order<R>)
+        requires declarations { declarations.now ≡ numbers_of is_declaration self.now.book.now }
+        requires none { order.old ≡ [] }
+        ensures { order.new ≡ evaluated self.now.book.now }
+    {
+        let mut values = Values::<N>::none();
+        constants::evaluate(self.book, declarations, &mut values, order);
+    }
+
+    // Registers the declarations, and lowers the parts. Tables that a function begins with are cleared once.
+    fn lower_named(
+        &self,
+        parts: Parts<'_>,
+        results: &mut [u8],
+        diagnostics: &mut [u8],
+    ) -> Result<LowerCtx, Refusal>
+        ensures answer { result
+            ≡ (lower_parts parts.entry.declarations.now parts.entry.settled.now parts.entry.outside.now
+            (entered N self.now.book.now parts.entry.declarations.now results.old diagnostics.old)).answer }
+        ensures results { results.new
+            ≡ all_of (lower_parts parts.entry.declarations.now parts.entry.settled.now parts.entry.outside.now
+            (entered N self.now.book.now parts.entry.declarations.now results.old diagnostics.old)).state.results }
+        ensures diagnostics { diagnostics.new
+            ≡ all_of (lower_parts parts.entry.declarations.now parts.entry.settled.now parts.entry.outside.now
+            (entered N self.now.book.now parts.entry.declarations.now results.old diagnostics.old)).state.diagnostics }
+    {
+        let mut names = Names::<N>::new();
+        names.register(self.book, parts.declarations);
+        lower_known(self.book, &mut names, parts, results, diagnostics)
+    }
+
+    // Lowers the book.
+    #[tactic(auto, unfolding(crate::specs::Inside::lower_whole))]
+    fn lower(&self, results: &mut [u8], diagnostics: &mut [u8]) -> Counted
+        ensures { Replies (lower_whole N self.now.book.now results.old diagnostics.old) (valued (evaluated self.now.book.now))
+            result results.new diagnostics.new }
+    {
+        let mut order = Order::<R>::none();
+        let outline = Outline::<R>::of(self.book);
+        self.settle_constants(outline.declarations(), &mut order);
+        let stored = count_stored(order.settled());
+        let parts = Parts {
+            declarations: outline.declarations(),
+            settled: order.settled(),
+            outside: outline.outside(),
+        };
+        let end = self.lower_named(parts, results, diagnostics);
+        reply_to(end, stored, results, diagnostics)
+    }
 }
 
 // Lowers a book, with tables no larger than it needs.
@@ -220,10 +195,10 @@ pub(crate) fn lower_read(book: &Book<'_>, results: &mut [u8], diagnostics: &mut 
 {
     book.laws();
     if fits(book, LEAST, LEAST) {
-        lower_sized::<LEAST, LEAST>(book, results, diagnostics)
+        Fitting::<LEAST, LEAST> { book }.lower(results, diagnostics)
     } else if fits(book, FEW, FEW) {
-        lower_sized::<FEW, FEW>(book, results, diagnostics)
+        Fitting::<FEW, FEW> { book }.lower(results, diagnostics)
     } else {
-        lower_sized::<NAMES, RECORDS>(book, results, diagnostics)
+        Fitting::<NAMES, RECORDS> { book }.lower(results, diagnostics)
     }
 }

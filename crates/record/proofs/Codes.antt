@@ -115,13 +115,6 @@ by_kind P known unknown n = go (kind_from n) refl
     go (Ok k) is = subst P (sym (kind_is n k is)) (known k)
     go (Err e) is = unknown n e is
 
--- two kinds with one code are one kind
-pub code_tells : (j k : Kind) → code_of j ≡ code_of k → j ≡ k
-code_tells j k same =
-    let one : kind_from (code_of k) ≡ Ok j = subst (λ (n : ℕ). kind_from n ≡ Ok j) same (code_of_kind j) in
-    let other : kind_from (code_of k) ≡ Ok k = code_of_kind k in
-    cc
-
 -- a byte that stands for no kind is no kind's code
 pub unknown_is_none : (n : ℕ) (e : UnknownKind) → kind_from n ≡ Err e → (k : Kind) → n == code_of k ≡ false
 unknown_is_none n e is k = go (n == code_of k) refl

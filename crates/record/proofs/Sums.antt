@@ -1,4 +1,5 @@
--- The words of a block, and the one's complement sum: carries folded as they come or all at the end, the sum is the same.
+-- The words of a block, and the one's complement sum: carries folded as they come or all at the end, the sum is the
+-- same.
 -- Assumes nothing.
 use Prim.Native.Nat.{ℕ, zero, suc, ◌+◌, ◌-◌, ◌*◌, ◌/◌, ◌%◌, ◌^◌, ◌≤◌, ◌<◌}
 use mathlib.Core.List.{List, [], ◌∷◌}

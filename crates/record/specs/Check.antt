@@ -2,7 +2,8 @@
 -- Assumes nothing.
 use Rattle.std.specs.Prelude.{ℕ, ◌+◌, ◌-◌, ◌*◌, ◌/◌, ◌%◌, ◌^◌, ◌<◌, Bool, List, [], ◌∷◌, ◌≡◌, eqb, take, drop, get_or}
 
--- RFC 1071 (1): neighbouring bytes are paired to 16-bit words, the first of a pair the more significant; an odd last byte is paired with 0
+-- RFC 1071 (1): neighbouring bytes are paired to 16-bit words, the first of a pair the more significant; an odd last
+-- byte is paired with 0
 unfoldable pub words : List ℕ → List ℕ
 words [] = []
 words (a ∷ []) = (256 * a) ∷ []
@@ -43,9 +44,9 @@ pub record SumsUp (s : List ℕ) (sum : ℕ) : Type 0 where
   pub folds : once (once (once sum)) ≡ ones_sum (take 255 (words s))
   pub small : sum < 2 ^ 39
 
--- What is claimed of another way to the same check, "add the first 255, fold carries into 16 bits until none is left, invert all
--- bits": of the sum of the first 255 words none is left after two folds, and the inverted rest is the checksum of RFC 1071. The proof is in
--- proofs/Sums.antt.
+-- What is claimed of another way to the same check, "add the first 255, fold carries into 16 bits until none is left,
+-- invert all bits": of the sum of the first 255 words none is left after two folds, and the inverted rest is the
+-- checksum of RFC 1071. The proof is in proofs/Sums.antt.
 abbrev pub FoldedLate : Type 0
 FoldedLate =
     (ws : List ℕ) →

@@ -1,6 +1,6 @@
 -- The kinds of records and their codes.
 -- Assumes nothing.
-use Rattle.std.specs.Prelude.{ℕ, ◌==◌, if◌then◌else◌, ◌≡◌, Result, Ok, Err}
+use Rattle.std.specs.Prelude.{ℕ, ◌==◌, if◌then◌else◌, ◌≡◌, Bool, true, false, Result, Ok, Err}
 use Rattle.record.specs.declared.kind.Kind.{Kind}
 use Rattle.record.specs.declared.kind.Kind.TheVariants.{Primitive, SubByte, Semantic, Named, Qualified, Generic, OverOne, OverTwo, InlineBits, Literal, Reference, Operation, Logic, Comparison, Range, Operand, Message, Union, Newtype, Alias, Constant, Ambiguous, TypeParameter, Field, Tombstone, Variant, Annotation, Argument, TombstoneArgument, LoweredAlias, LoweredConstant, LoweredMessage, LoweredUnion, LoweredVariant, LoweredField, Encoding, LoweredTombstone, LoweredNewtype, Diagnostic}
 use Rattle.record.specs.declared.kind.UnknownKind.{UnknownKind}
@@ -94,3 +94,24 @@ kind_from code =
 -- what reading a byte as a kind gives
 abbrev pub Decodes : ℕ → Result Kind UnknownKind → Type 0
 Decodes code r = r ≡ kind_from code
+
+-- declarations: codes 20 to 25
+abbrev pub is_declaration_kind : Kind → Bool
+is_declaration_kind Message = true
+is_declaration_kind Union = true
+is_declaration_kind Newtype = true
+is_declaration_kind Alias = true
+is_declaration_kind Constant = true
+is_declaration_kind Ambiguous = true
+is_declaration_kind kind = false
+
+-- what stands under a declaration: codes 30 to 36
+abbrev pub is_item_kind : Kind → Bool
+is_item_kind TypeParameter = true
+is_item_kind Field = true
+is_item_kind Tombstone = true
+is_item_kind Variant = true
+is_item_kind Annotation = true
+is_item_kind Argument = true
+is_item_kind TombstoneArgument = true
+is_item_kind kind = false

@@ -8,3 +8,4 @@ pub mod Check
 pub mod Write
 pub mod Written
 pub mod Refused
+pub mod Reference

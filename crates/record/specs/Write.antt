@@ -25,8 +25,8 @@ with_records rs l = flat_map encode_record rs ++ drop (24 * length rs) l
 unfoldable pub cleared : ℕ → List ℕ → List ℕ
 cleared limit l = replicate (24 * limit) 0 ++ drop (24 * limit) l
 
--- What is claimed of a write: where there is room the 24 bytes from 24 n on are those of r, and in every case no other byte changes.
--- The proof is in proofs/Writes.antt.
+-- What is claimed of a write: where there is room the 24 bytes from 24 n on are those of r, and in every case no other
+-- byte changes. The proof is in proofs/Writes.antt.
 pub record Written (most : ℕ) (l : List ℕ) (n : ℕ) (r : Record) (l' : List ℕ) : Type 0 where
   pub same_length : length l' ≡ length l
   pub there : n < room_for most l → take 24 (drop (24 * n) l') ≡ encode_record r
@@ -37,7 +37,8 @@ pub record Written (most : ℕ) (l : List ℕ) (n : ℕ) (r : Record) (l' : List
 abbrev pub PutWrites : Type 0
 PutWrites = (most : ℕ) (l : List ℕ) (n : ℕ) (r : Record) → Written most l n r (put most l n r)
 
--- What is claimed of records written one after the other; the proofs are in proofs/Fronts.antt. One record more, where there is room:
+-- What is claimed of records written one after the other; the proofs are in proofs/Fronts.antt. One record more, where
+-- there is room:
 abbrev pub PutAddsOne : Type 0
 PutAddsOne =
     (most : ℕ) (l : List ℕ) (rs : List Record) (r : Record) →

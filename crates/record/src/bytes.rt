@@ -1,6 +1,7 @@
 //! Numbers at the front of a slice, least significant byte first. A byte past the end counts as 0.
 
-ghost use Rattle.std.specs.Prelude.{◌≡◌, drop, slice_index};
+ghost use Rattle.std.specs.Prelude.{◌≡◌, ◌==◌, drop, slice_index};
+ghost use Rattle.std.specs.List.{list_all};
 ghost use Rattle.record.specs.Bytes.{little_endian};
 
 /// What is left of s from a place on: nothing where the place is past the end.
@@ -17,7 +18,14 @@ pub fn byte(s: &[u8], i: usize) -> u8
     s.get(i).copied().unwrap_or(0)
 }
 
-/// The number in the first byte.
+/// Whether all bytes are 0.
+pub fn are_zero(bytes: &[u8]) -> bool
+    ensures { result ≡ list_all (λ x. x == 0) bytes.now }
+{
+    bytes.iter().all(|byte| *byte == 0)
+}
+
+/// The number in the first byte. It is for callers outside of these crates.
 #[tactic(auto, using(crate::proofs::Numbers::one_there))]
 pub fn one(s: &[u8]) -> u8
     ensures { result ≡ little_endian 1 s.now }

@@ -10,7 +10,7 @@ use crate::{BLOCK_BYTES, bytes};
 fn word_at(s: &[u8], k: u16) -> u16
     ensures { result ≡ slice_index (words s.now) k }
 {
-    let at = 2 * k as usize;
+    let at = 2 * usize::from(k);
     u16::from_be_bytes([bytes::byte(s, at), bytes::byte(s, at + 1)])
 }
 
@@ -24,8 +24,9 @@ fn pair_at(s: &[u8], k: usize) -> u32
     u32::from_be_bytes([s[at], s[at + 1], s[at + 2], s[at + 3]])
 }
 
-// The sum of the first 255 words of s, all of which are there, two at a time, in about a tenth of the instructions:
-// the first of two counts 65,536 times, which is once, as soon as carries go round.
+// The sum of the first 255 words of s, all of which are there, two at a time, in about a tenth of the instructions: the
+// first of two counts 65,536 times, which is once, as soon as carries go round. As `map` and `sum` over a range it was
+// tried: that each pair is there and that the sum fits did not prove.
 fn sum_pairs(s: &[u8]) -> u64
     requires { 510 ≤ length s.now }
     ensures { SumsUp s.now result }
@@ -37,7 +38,7 @@ fn sum_pairs(s: &[u8]) -> u64
     sum + u64::from(word_at(s, 254))
 }
 
-// The same one after the other, whatever is there of them.
+// The same one after the other, whatever is there of them; a loop for the same reason.
 fn sum_singly(s: &[u8]) -> u64
     ensures { SumsUp s.now result }
 {
@@ -72,7 +73,7 @@ fn fold(sum: u64) -> u64
 pub fn block_check(book: &[u8], block: u16) -> u16
     ensures { result ≡ block_check book.now block }
 {
-    let sum = sum_words(bytes::from(book, BLOCK_BYTES * (block as usize)));
+    let sum = sum_words(bytes::from(book, BLOCK_BYTES * usize::from(block)));
     let first = fold(sum);
     let second = fold(first);
     let third = fold(second);
@@ -84,6 +85,6 @@ pub fn block_check(book: &[u8], block: u16) -> u16
 pub fn check_holds(book: &[u8], block: u16) -> bool
     ensures { result ≡ check_holds book.now block }
 {
-    let last = word_at(bytes::from(book, BLOCK_BYTES * (block as usize)), 255);
+    let last = word_at(bytes::from(book, BLOCK_BYTES * usize::from(block)), 255);
     last == block_check(book, block)
 }

@@ -6,8 +6,8 @@ ghost use Rattle.record.specs.declared.cursor.Cursor.{Cursor};
 ghost use Rattle.record.specs.Write.{room_for, with_records};
 ghost use Rattle.record.specs.Written.{shown, pushed, number_given, read_at, blank, written, all_of};
 
-use crate::write::{Full, write_record, written_at};
-use crate::{RECORD_BYTES, Record};
+use crate::Record;
+use crate::write::{Full, put_record, written_at};
 
 /// How many records stand at the front of a lent slice, and how many may.
 #[derive(Clone, Copy, Debug, PartialEq, Eq, Hash)]
@@ -30,19 +30,13 @@ impl Cursor {
     }
 
     /// Writes the record behind the others, where there is room; its number. Where there is none, nothing changes.
-    #[tactic(auto, unfolding(crate::specs::Written::pushed, crate::specs::Written::number_given), using(crate::proofs::Pushes::writes))]
+    #[tactic(auto, unfolding(crate::specs::Write::put, crate::specs::Written::pushed, crate::specs::Written::number_given), using(crate::proofs::Pushes::writes))]
     pub fn push(&mut self, bytes: &mut [u8], item: &Record) -> Result<u16, Full>
         ensures number { result ≡ number_given (shown bytes.old self.old) }
         ensures state { shown bytes.new self.new ≡ pushed (shown bytes.old self.old) item.now }
     {
         let n = self.count;
-        if n >= self.most {
-            return Err(Full);
-        }
-        if bytes.len() < RECORD_BYTES * n as usize + RECORD_BYTES {
-            return Err(Full);
-        }
-        write_record(bytes, n, item);
+        put_record(bytes, self.most, n, item)?;
         self.count = n + 1;
         Ok(n)
     }

@@ -1,7 +1,7 @@
 //! What a record is, by its first byte.
 
 ghost use Rattle.std.specs.Prelude.{◌≡◌};
-ghost use Rattle.record.specs.Kind.{Decodes, code_of};
+ghost use Rattle.record.specs.Kind.{Decodes, code_of, is_declaration_kind, is_item_kind};
 
 /// The kinds of records: types, constant expressions, constraints and operands (1 to 16), declarations (20 to 25), what
 /// stands under them (30 to 36), and what a lowering writes and tells (40 to 50).
@@ -58,6 +58,37 @@ impl Kind {
         ensures { result ≡ code_of self }
     {
         self as u8
+    }
+
+    /// Whether it declares a name.
+    pub fn is_declaration(self) -> bool
+        ensures { result ≡ is_declaration_kind self }
+    {
+        matches!(
+            self,
+            Kind::Message
+                | Kind::Union
+                | Kind::Newtype
+                | Kind::Alias
+                | Kind::Constant
+                | Kind::Ambiguous
+        )
+    }
+
+    /// Whether it stands under a declaration.
+    pub fn is_item(self) -> bool
+        ensures { result ≡ is_item_kind self }
+    {
+        matches!(
+            self,
+            Kind::TypeParameter
+                | Kind::Field
+                | Kind::Tombstone
+                | Kind::Variant
+                | Kind::Annotation
+                | Kind::Argument
+                | Kind::TombstoneArgument
+        )
     }
 }
 

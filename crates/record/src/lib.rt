@@ -4,6 +4,7 @@
 
 ghost use Rattle.std.specs.Prelude.{◌≡◌, ℕ, ◌+◌, ◌*◌, ◌/◌, ◌%◌, ◌^◌, ◌≤◌, ◌<◌, length, drop, slice_index};
 ghost use Rattle.record.specs.Layout.{decode_record, encode_record, record_at};
+ghost use Rattle.record.specs.Reference.{reference, reference_number};
 
 pub mod bytes;
 pub mod check;
@@ -28,8 +29,29 @@ pub const BLOCK_RECORDS: u16 = 21;
 /// A record has this many bytes.
 pub const RECORD_BYTES: usize = 24;
 
+/// Where a record names another or a name, this number stands for none.
+pub const NO_REFERENCE: u16 = 65535;
+
+/// The reference that a number stands for, if it stands for one.
+pub fn reference(number: u16) -> Option<u16>
+    ensures { result ≡ reference number }
+{
+    if number == NO_REFERENCE {
+        None
+    } else {
+        Some(number)
+    }
+}
+
+/// The number that stands for a reference, or for none.
+pub fn reference_number(reference: Option<u16>) -> u16
+    ensures { result ≡ reference_number reference }
+{
+    reference.unwrap_or(NO_REFERENCE)
+}
+
 /// Where in its source text something stands: the offset of its first byte, and its length.
-#[derive(Clone, Copy, Debug, PartialEq, Eq, Hash)]
+#[derive(Clone, Copy, Debug, Default, PartialEq, Eq, Hash)]
 pub struct Span {
     pub offset: u32,
     pub len: u32,
@@ -55,14 +77,21 @@ pub struct Record {
 
 impl Record {
     ghost use Rattle.record.specs.Kind.{kind_from};
-    ghost use Rattle.record.specs.Made.{bare_record};
+    ghost use Rattle.record.specs.Made.{bare_record, bare_record_by_code};
 
     /// A record of a kind, with 0 for what is not given.
     pub fn bare(kind: Kind, sub: u8, a: u16, b: u16, v: u64) -> Self
         ensures { result ≡ bare_record kind sub a b v }
     {
+        Record::bare_by_code(kind.code(), sub, a, b, v)
+    }
+
+    /// The same by the first byte, which need not stand for a kind.
+    pub fn bare_by_code(code: u8, sub: u8, a: u16, b: u16, v: u64) -> Self
+        ensures { result ≡ bare_record_by_code code sub a b v }
+    {
         Record {
-            kind: kind.code(),
+            kind: code,
             sub,
             a,
             b,
@@ -138,18 +167,19 @@ fn decode_at(s: &[u8], at: usize) -> Record
     }
 }
 
-// The block of record r: r / 21, by a product, which takes a third of the instructions. 3,195,661 is 2^26 / 21, rounded up.
+// The block of record r: r / 21, by a product, which takes a third of the instructions. 3,195,661 is 2^26 / 21, rounded
+// up.
 fn block_of(r: u16) -> usize
     ensures { result ≡ r / 21 }
 {
-    (r as usize) * 3195661 / 0x400_0000
+    usize::from(r) * 3195661 / 0x400_0000
 }
 
 // Where record r of a book stands. Each block before its own has eight bytes besides its records.
 fn place_of(r: u16) -> usize
     ensures { result ≡ 512 * (r / 21) + 4 + 24 * (r % 21) }
 {
-    RECORD_BYTES * (r as usize) + 8 * block_of(r) + HEADER_BYTES
+    RECORD_BYTES * usize::from(r) + 8 * block_of(r) + HEADER_BYTES
 }
 
 /// Record r of a book, at its place in its block. A byte past the end of the slice counts as 0.

@@ -1,7 +1,7 @@
 //! Why and where a book is turned back.
 
-ghost use Rattle.std.specs.Prelude.{◌≡◌};
-ghost use Rattle.record.specs.Refused.{number_of};
+ghost use Rattle.std.specs.Prelude.{◌≡◌, Some};
+ghost use Rattle.record.specs.Refused.{number_of, DecodesCause, refusal_line};
 
 use std::error::Error;
 use std::fmt;
@@ -30,6 +30,33 @@ impl Cause {
     }
 }
 
+/// A byte that is no cause's number.
+#[derive(Clone, Copy, Debug, PartialEq, Eq, Hash)]
+pub struct UnknownCause(pub u8);
+
+impl TryFrom<u8> for Cause {
+    type Error = UnknownCause;
+
+    ghost try_from_gives = { DecodesCause };
+
+    #[tactic(auto, unfolding(crate::specs::Refused::cause_from))]
+    fn try_from(number: u8) -> Result<Self, UnknownCause> {
+        match number {
+            1 => Ok(Cause::BookLength),
+            2 => Ok(Cause::Check),
+            3 => Ok(Cause::Block),
+            4 => Ok(Cause::Shape),
+            5 => Ok(Cause::Child),
+            6 => Ok(Cause::Follow),
+            7 => Ok(Cause::Name),
+            8 => Ok(Cause::Depth),
+            9 => Ok(Cause::TooDeep),
+            10 => Ok(Cause::Full),
+            _ => Err(UnknownCause(number)),
+        }
+    }
+}
+
 /// A book is turned back for a cause, at a place: 0, a block, or a record.
 #[derive(Clone, Copy, Debug, PartialEq, Eq, Hash)]
 pub struct Refusal {
@@ -38,10 +65,15 @@ pub struct Refusal {
 }
 
 impl fmt::Display for Refusal {
+    ghost output = { λ refusal. Some (refusal_line refusal) };
+
     fn fmt<W: fmt::Write>(&self, f: &mut fmt::Formatter<W>) -> fmt::Result {
-        let cause = self.cause as u8;
-        let place = self.place;
-        write!(f, "turned back by cause {cause} at {place}")
+        write!(
+            f,
+            "turned back by cause {} at {}",
+            self.cause.number(),
+            self.place
+        )
     }
 }
 

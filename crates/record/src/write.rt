@@ -1,6 +1,6 @@
 //! Writing records into a lent slice, one after the other from its front.
 
-ghost use Rattle.std.specs.Prelude.{◌≡◌, ◌+◌, ◌*◌, ◌≤◌, length, is_ok, ltb, drop};
+ghost use Rattle.std.specs.Prelude.{◌≡◌, ◌+◌, ◌*◌, ◌≤◌, length, is_ok, ltb, drop, OnOk};
 ghost use Rattle.record.specs.Layout.{Within, decode_record, encode_record};
 ghost use Rattle.record.specs.Write.{room_for, write_at, put, cleared};
 
@@ -29,7 +29,7 @@ fn copy(part: &mut [u8], bytes: &[u8; RECORD_BYTES])
 }
 
 // Writes r as record n of dst, which has room for it. Each field is read, and so known to be within its width.
-pub(crate) fn write_record(dst: &mut [u8], n: u16, r: &Record)
+fn write_record(dst: &mut [u8], n: u16, r: &Record)
     requires { 24 * n + 24 ≤ length dst.old }
     ensures bytes { dst.new ≡ write_at dst.old (24 * n) (encode_record r.now) }
     ensures within { Within r.now }
@@ -46,7 +46,7 @@ pub(crate) fn write_record(dst: &mut [u8], n: u16, r: &Record)
             len: _len,
         },
     } = *r;
-    let at = RECORD_BYTES * n as usize;
+    let at = RECORD_BYTES * usize::from(n);
     copy(&mut dst[at..at + RECORD_BYTES], &encode(*r));
 }
 
@@ -56,8 +56,13 @@ pub(crate) fn write_record(dst: &mut [u8], n: u16, r: &Record)
 pub fn put_record(dst: &mut [u8], most: u16, n: u16, r: &Record) -> Result<(), Full>
     ensures value { is_ok result ≡ ltb n (room_for most dst.old) }
     ensures dst_after { dst.new ≡ put most dst.old n r.now }
+    ensures within { OnOk result (Within r.now) }
 {
-    if n >= room(dst, most) {
+    // `room` is not asked: it divides.
+    if n >= most {
+        return Err(Full);
+    }
+    if dst.len() < RECORD_BYTES * usize::from(n) + RECORD_BYTES {
         return Err(Full);
     }
     write_record(dst, n, r);
@@ -69,7 +74,7 @@ pub fn put_record(dst: &mut [u8], most: u16, n: u16, r: &Record) -> Result<(), F
 pub fn clear(dst: &mut [u8], most: u16)
     ensures { dst.new ≡ cleared (room_for most dst.old) dst.old }
 {
-    let end = RECORD_BYTES * room(dst, most) as usize;
+    let end = RECORD_BYTES * usize::from(room(dst, most));
     dst[..end].fill(0);
 }
 
@@ -77,5 +82,5 @@ pub fn clear(dst: &mut [u8], most: u16)
 pub fn written_at(s: &[u8], n: u16) -> Record
     ensures { result ≡ decode_record (drop (24 * n) s.now) }
 {
-    decode_at(s, RECORD_BYTES * n as usize)
+    decode_at(s, RECORD_BYTES * usize::from(n))
 }

@@ -13,7 +13,7 @@ use Rattle.lower.specs.LowerBook.{accepted, refused, lower_book}
 use Rattle.lower.specs.Promise.{Answered, reply_of, Lowered}
 use Rattle.replay.specs.Lent.{patterned, lent_results, lent_diagnostics}
 use Rattle.replay.specs.Said.{reply_said, left_as, said, same_reply, same, agrees_with}
-use Rattle.replay.specs.Outcome.{formed, found, outcome_into, outcome, RightIfLowered}
+use Rattle.replay.specs.Finding.{formed, found, finding_into, finding, RightIfLowered}
 use Rattle.replay.specs.declared.layout.Header.{Header}
 use Rattle.replay.proofs.Patterns.{pattern_length}
 use Rattle.replay.proofs.Sames.{agrees_if_equal}
@@ -44,8 +44,8 @@ pub all_found :
     && same own' (left_as h.cause h.results results (patterned (length own') 5 17))
     && same told' (left_as h.cause h.diagnostics diagnostics (patterned (length told') 3 29))))
     (reply_of reply)
-    ≡ outcome_into h book results diagnostics (patterned n 5 17) (patterned m 3 29)
-unfolding outcome_into agrees_with said
+    ≡ finding_into h book results diagnostics (patterned n 5 17) (patterned m 3 29)
+unfolding finding_into agrees_with said
 all_found h book results diagnostics n m {own' = own'} {told' = told'} reply own_is told_is lowered own_long told_long =
     rw (still_long n 5 17 own' own_is own_long, still_long m 3 29 told' told_is told_long) (rw (← own_is, ← told_is, ← lowered))
 
@@ -55,9 +55,9 @@ unfolding found
 found_right b (accepted r d c) = refl
 found_right b (refused n p) = refl
 
--- the claim of specs/Outcome.antt
+-- the claim of specs/Finding.antt
 pub right_if_lowered : RightIfLowered
-unfolding outcome outcome_into
+unfolding finding finding_into
 right_if_lowered h book results diagnostics =
     let own = lent_results h in
     let told = lent_diagnostics h in

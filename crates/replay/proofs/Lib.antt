@@ -1,4 +1,4 @@
-mod Scans
+mod Causes
 mod Patterns
 mod Sames
 mod Lefts

@@ -1,14 +1,16 @@
 -- The bytes of a slice as lent: how they are computed, filled in and compared.
 -- Assumes nothing.
-use Prim.Native.Nat.{ℕ, suc, ◌+◌, ◌*◌, ◌/◌, ◌%◌, ◌≤◌, ◌<◌}
-use mathlib.Core.Bool.{true, false}
+use Prim.Native.Nat.{ℕ, zero, suc, ◌+◌, ◌*◌, ◌/◌, ◌%◌, ◌<◌}
+use mathlib.Core.Bool.{◌&&◌}
 use mathlib.Core.List.{List, [], ◌∷◌, ◌++◌, map, map-append}
 use mathlib.Core.Path.{◌≡◌, refl, sym, ap, ◌∙◌}
 use native.Mathlib.Numerals.{add-one}
 use native.Mathlib.Nat.{div-add-mod}
 use native.Mathlib.Omega.{arith}
+use lib.Dec.{eqb}
 use lib.ListN.{length, take, drop, get_or, set, length-map}
 use lib.Seq.{take-suc-set}
+use Rattle.std.specs.List.{list_all, enumerate_from}
 use Rattle.book.specs.Lists.{up_to, from}
 use Rattle.book.proofs.Lists.{from-length}
 use Rattle.book.proofs.Marks.{up_to_last}
@@ -16,7 +18,6 @@ use Rattle.book.proofs.Members.{at_from}
 use Rattle.book.proofs.Records.{at_map}
 use Rattle.replay.specs.Lent.{lent_byte, patterned}
 use Rattle.replay.specs.Said.{same}
-use Rattle.replay.proofs.Scans.{none_left, same_on, same_out}
 
 -- a byte goes by the last eight bits of its place
 pub byte_is : (step first i : ℕ) → (step * (i % 256) % 256 + first) % 256 ≡ lent_byte step first i
@@ -54,24 +55,21 @@ module _ (step first : ℕ) where
   pattern_on s i {b} less before is =
       rw (add-one i, take-suc-set s i b less, before, is) (sym (pattern_next i))
 
-  -- all from i on is as lent, by the byte at i and the rest
-  module _ (s : List ℕ) (i : ℕ) (less : i < length s) {b : ℕ} (is : b ≡ lent_byte step first i) where
-    there : i < length (patterned (length s) step first)
-    there = rw (pattern_length (length s)) less
+  -- each byte from a place on is tested, with its place
+  tested :
+      (at k : ℕ) (s : List ℕ) →
+      list_all (λ (p : ℕ × ℕ). eqb p.1 (lent_byte step first p.0)) (drop at (enumerate_from k s))
+      ≡ same (drop at s) (drop at (map (lent_byte step first) (from k (length s))))
+  unfolding same from
+  tested zero k [] = refl
+  tested zero k (b ∷ s) =
+      rw (add-one k) (ap (λ t. eqb b (lent_byte step first k) && t) (tested zero (suc k) s))
+  tested (suc at) k [] = refl
+  tested (suc at) k (b ∷ s) = rw (add-one k) (tested at (suc k) s)
 
-    pub rest_on :
-        get_or s i 0 ≡ b →
-        same (drop i s) (drop i (patterned (length s) step first))
-        ≡ same (drop (i + 1) s) (drop (i + 1) (patterned (length s) step first))
-    rest_on e = same_on s i less (patterned (length s) step first) there (e ∙ is ∙ sym (pattern_at (length s) i less))
-
-    pub rest_out : (get_or s i 0 ≡ b → ⊥) → same (drop i s) (drop i (patterned (length s) step first)) ≡ false
-    rest_out other =
-        same_out s i less (patterned (length s) step first) there (λ e. other (e ∙ pattern_at (length s) i less ∙ sym is))
-
-  -- nothing is left
-  pub rest_end : (s : List ℕ) (i : ℕ) → length s ≤ i → same (drop i s) (drop i (patterned (length s) step first)) ≡ true
-  unfolding same
-  rest_end s i past =
-      let past' : length (patterned (length s) step first) ≤ i = rw (pattern_length (length s)) past in
-      rw (none_left s i past, none_left (patterned (length s) step first) i past')
+  pub goes_on :
+      (at : ℕ) (s : List ℕ) →
+      list_all (λ (p : ℕ × ℕ). eqb p.1 (lent_byte step first p.0)) (drop at (enumerate_from 0 s))
+      ≡ same (drop at s) (drop at (patterned (length s) step first))
+  unfolding patterned
+  goes_on at s = tested at 0 s

@@ -1,7 +1,8 @@
--- What is told to be the same is equal, and the other way round; two slices, part by part; a reply beside the one that is said.
+-- What is told to be the same is equal, and the other way round; two slices, part by part; a reply beside the one that
+-- is said.
 -- Assumes nothing.
 use Prim.Native.Nat.{ℕ, zero, suc}
-use mathlib.Core.Bool.{Bool, true, false, cond, ◌&&◌, and_assoc}
+use mathlib.Core.Bool.{Bool, true, false, ◌&&◌, and_assoc}
 use mathlib.Core.List.{List, [], ◌∷◌, ◌++◌}
 use mathlib.Core.Path.{◌≡◌, refl, sym, ap₂}
 use native.Mathlib.Omega.{arith}
@@ -10,7 +11,7 @@ use lib.ListN.{length, take, drop, replicate}
 use borrow.Author.Tests.{eq-eqb, ne_eqb, eqb-true, eqb-false, le-leb, lt-leb, leb-true, leb-false}
 use Rattle.book.proofs.Trees.{both_so}
 use Rattle.lower.specs.LowerBook.{Reply, accepted, refused, Outcome}
-use Rattle.std.specs.Prelude.{Ok, Err, nat_eq}
+use Rattle.std.specs.Prelude.{Ok, Err, Option, Some, None, nat_eq}
 use Rattle.std.specs.List.{starts_with}
 use lib.Pointwise.{pointwise}
 use Rattle.record.specs.Refused.{number_of}
@@ -18,7 +19,7 @@ use Rattle.record.specs.declared.refusal.Cause.{Cause}
 use Rattle.record.specs.declared.refusal.Cause.TheVariants.{BookLength, Check, Block, Shape, Child, Follow, Name, Depth, TooDeep, Full}
 use Rattle.lower.specs.Promise.{Answered, reply_of, reply_words}
 use Rattle.replay.specs.Bytes.{zeros}
-use Rattle.replay.specs.Said.{reply_said, same_reply, same, agrees_with, AgreesIfEqual}
+use Rattle.replay.specs.Said.{reply_by, reply_said, same_reply, same, agrees_with, AgreesIfEqual}
 use Rattle.replay.specs.declared.layout.Header.{Header}
 
 -- two numbers either way round
@@ -85,26 +86,26 @@ pub words_tell :
     (x : Answered) (h : Header) →
     pointwise eqb (reply_words (reply_of x)) (reply_words (reply_said h)) ≡ same_reply (reply_of x) (reply_said h)
 unfolding reply_of reply_words reply_said same_reply
-words_tell (Ok n) h = go (eqb h.cause 0) refl
+words_tell (Ok n) h = go h.cause
   where
     go :
-        (b : Bool) → eqb h.cause 0 ≡ b →
+        (cause : Option Cause) →
         pointwise eqb (0 ∷ n.results ∷ n.diagnostics ∷ n.constants ∷ [])
-        (reply_words (cond b (accepted h.results.count h.diagnostics.count h.constants) (refused h.cause h.place)))
+        (reply_words (reply_by cause h.results.count h.diagnostics.count h.constants h.place))
         ≡ same_reply (accepted n.results n.diagnostics n.constants)
-        (cond b (accepted h.results.count h.diagnostics.count h.constants) (refused h.cause h.place))
-    go true e = three (eqb n.results h.results.count) (eqb n.diagnostics h.diagnostics.count) (eqb n.constants h.constants)
-    go false e = rw (eqb_turned 0 h.cause, e)
-words_tell (Err r) h = go (eqb h.cause 0)
+        (reply_by cause h.results.count h.diagnostics.count h.constants h.place)
+    go None = three (eqb n.results h.results.count) (eqb n.diagnostics h.diagnostics.count) (eqb n.constants h.constants)
+    go (Some c) = rw (eqb_turned 0 (number_of c), numbered c)
+words_tell (Err r) h = go h.cause
   where
     go :
-        (b : Bool) →
+        (cause : Option Cause) →
         pointwise eqb (number_of r.cause ∷ r.place ∷ 0 ∷ 0 ∷ [])
-        (reply_words (cond b (accepted h.results.count h.diagnostics.count h.constants) (refused h.cause h.place)))
+        (reply_words (reply_by cause h.results.count h.diagnostics.count h.constants h.place))
         ≡ same_reply (refused (number_of r.cause) r.place)
-        (cond b (accepted h.results.count h.diagnostics.count h.constants) (refused h.cause h.place))
-    go true = rw (numbered r.cause)
-    go false = two (eqb (number_of r.cause) h.cause) (eqb r.place h.place)
+        (reply_by cause h.results.count h.diagnostics.count h.constants h.place)
+    go None = rw (numbered r.cause)
+    go (Some c) = two (eqb (number_of r.cause) (number_of c)) (eqb r.place h.place)
 
 -- slices, replies and outcomes: each is the same as itself, and those that are the same are equal
 same_refl : (l : List ℕ) → same l l ≡ true

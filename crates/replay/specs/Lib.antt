@@ -4,5 +4,5 @@ pub mod Range
 pub mod Agree
 pub mod Lent
 pub mod Said
-pub mod Outcome
+pub mod Finding
 pub mod Totals

@@ -1,21 +1,28 @@
 -- What an answer says: the reply, and both slices at exit; and whether the lowering of its book gives the same.
 -- Assumes nothing.
-use Rattle.std.specs.Prelude.{ℕ, Bool, true, false, cond, ◌&&◌, List, [], ◌∷◌, ◌++◌, ◌↔◌, ◌≡◌, eqb, length, drop, replicate}
+use Rattle.std.specs.Prelude.{ℕ, Bool, true, false, ◌&&◌, Option, Some, None, List, [], ◌∷◌, ◌++◌, ◌↔◌, ◌≡◌, eqb, length, drop, replicate}
+use Rattle.record.specs.Refused.{number_of}
+use Rattle.record.specs.declared.refusal.Cause.{Cause}
 use Rattle.lower.specs.LowerBook.{Reply, accepted, refused, Outcome}
 use Rattle.replay.specs.declared.layout.Header.{Header}
 use Rattle.replay.specs.declared.layout.Part.{Part}
 
--- the reply: cause 0 stands for accepted
-unfoldable pub reply_said : Header → Reply
-reply_said h =
-    cond (eqb h.cause 0) (accepted h.results.count h.diagnostics.count h.constants) (refused h.cause h.place)
+-- the reply: accepted with these counts, or refused for a cause
+abbrev pub reply_by : Option Cause → ℕ → ℕ → ℕ → ℕ → Reply
+reply_by None results diagnostics constants place = accepted results diagnostics constants
+reply_by (Some cause) results diagnostics constants place = refused (number_of cause) place
 
--- the front of a slice at exit: the bytes that follow the book if it is accepted, else zeros, as many as changed (none at causes 1 to 8)
-unfoldable pub front_said : ℕ → Part → List ℕ → List ℕ
-front_said cause p written = cond (eqb cause 0) written (replicate p.changed 0)
+unfoldable pub reply_said : Header → Reply
+reply_said h = reply_by h.cause h.results.count h.diagnostics.count h.constants h.place
+
+-- the front of a slice at exit: the bytes that follow the book if it is accepted, else zeros, as many as changed (none
+-- at causes 1 to 8)
+unfoldable pub front_said : Option Cause → Part → List ℕ → List ℕ
+front_said None p written = written
+front_said (Some cause) p written = replicate p.changed 0
 
 -- a slice at exit: that front, and behind it all as lent
-unfoldable pub left_as : ℕ → Part → List ℕ → List ℕ → List ℕ
+unfoldable pub left_as : Option Cause → Part → List ℕ → List ℕ → List ℕ
 left_as cause p written lent =
     let front : List ℕ = front_said cause p written in
     front ++ drop (length front) lent

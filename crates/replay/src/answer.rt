@@ -3,93 +3,118 @@
 ghost use Rattle.std.specs.Prelude.{◌≡◌, length};
 ghost use Rattle.lower.specs.Promise.{reply_of};
 ghost use Rattle.replay.specs.Lent.{patterned};
-ghost use Rattle.replay.specs.Outcome.{complete, formed, found, outcome_into, outcome};
+ghost use Rattle.replay.specs.Finding.{complete, formed, found, finding_into, finding};
 
 use crate::layout::Header;
 use crate::lent::Pattern;
 use crate::{agree, said};
 use lower::Counts;
+use record::RECORD_BYTES;
 use record::refusal::Refusal;
+use types::{MOST_DIAGNOSTICS, MOST_RESULTS};
 
-// The longest slices that a header in range can ask for, in bytes. They are arrays, so that what is found of an answer
-// never fails for want of memory.
-const RESULT_BYTES: usize = 49200;
+/// The longest slices that a header in range can ask for, in bytes: two records past the limits. They are arrays, so
+/// that what is found of an answer never fails for want of memory.
+pub(crate) const RESULT_BYTES: usize = RECORD_BYTES * (MOST_RESULTS as usize + 2);
 
-const DIAGNOSTIC_BYTES: usize = 6192;
+pub(crate) const DIAGNOSTIC_BYTES: usize = RECORD_BYTES * (MOST_DIAGNOSTICS as usize + 2);
 
 // What the two slices are filled with.
-const OWN: Pattern = Pattern { step: 5, first: 17 };
+const RESULT_PATTERN: Pattern = Pattern { step: 5, first: 17 };
 
-const TOLD: Pattern = Pattern { step: 3, first: 29 };
+const DIAGNOSTIC_PATTERN: Pattern = Pattern { step: 3, first: 29 };
+
+/// An answer as it was read: its header, its book, and the records that follow, if the book is accepted.
+#[derive(Clone, Copy)]
+pub struct Answer<'a> {
+    pub header: Header,
+    pub book: &'a [u8],
+    pub results: &'a [u8],
+    pub diagnostics: &'a [u8],
+}
 
 /// What is found of an answer: whether it is right; and what its book counts, if the lowering accepts it.
 #[derive(Clone, Copy, Debug)]
-pub struct Outcome {
+pub struct Finding {
     pub right: bool,
     pub counts: Option<Counts>,
 }
 
-// Whether as many bytes stand behind the header as it says.
-#[tactic(auto, unfolding(crate::specs::Outcome::complete))]
-fn is_complete(h: Header, book: usize, results: usize, diagnostics: usize) -> bool
-    ensures { result ≡ complete h book results diagnostics }
-{
-    (book == h.book as usize)
-        && (results == agree::following(h.cause, h.results) as usize)
-        && (diagnostics == agree::following(h.cause, h.diagnostics) as usize)
-}
-
-// Whether an answer has the form that it should have, before its book is lowered.
-#[tactic(auto, unfolding(crate::specs::Outcome::formed))]
-fn is_formed(h: Header, book: usize, results: usize, diagnostics: usize) -> bool
-    ensures { result ≡ formed h book results diagnostics }
-{
-    agree::header_agrees(h)
-        && agree::book_suits(h, book)
-        && is_complete(h, book, results, diagnostics)
-}
-
 // What is found of an answer that is right or not, by the reply to its book.
-#[tactic(auto, unfolding(crate::specs::Outcome::found, lower::specs::Promise::reply_of))]
-fn found(right: bool, reply: Result<Counts, Refusal>) -> Outcome
+#[tactic(auto, unfolding(crate::specs::Finding::found, lower::specs::Promise::reply_of))]
+fn found(right: bool, reply: Result<Counts, Refusal>) -> Finding
     ensures { result ≡ found right (reply_of reply) }
 {
-    Outcome {
+    Finding {
         right,
         counts: reply.ok(),
     }
 }
 
-// What is found of an answer whose book is lowered into two slices: `own` for the results, `told` for the diagnostics.
-// Byte i of the one is lent as 5 i + 17, of the other as 3 i + 29, modulo 256.
-fn replay_into(
-    h: Header,
-    book: &[u8],
-    results: &[u8],
-    diagnostics: &[u8],
-    own: &mut [u8],
-    told: &mut [u8],
-) -> Outcome
-    ensures { result ≡ outcome_into h book.now results.now diagnostics.now
-        (patterned (length own.old) 5 17) (patterned (length told.old) 3 29) }
-{
-    OWN.fill(own);
-    TOLD.fill(told);
-    let reply = lower::lower_book(book, own, told);
-    let formed = is_formed(h, book.len(), results.len(), diagnostics.len());
-    let agrees = said::reply_agrees(h, reply)
-        & said::slice_agrees(h.cause, h.results, results, own, OWN)
-        & said::slice_agrees(h.cause, h.diagnostics, diagnostics, told, TOLD);
-    found(formed & agrees, reply)
-}
+impl Answer<'_> {
+    // Whether as many bytes stand behind the header as it says.
+    #[tactic(auto, unfolding(crate::specs::Finding::complete))]
+    fn is_complete(self) -> bool
+        ensures { result
+            ≡ complete self.entry.header (length self.entry.book.now) (length self.entry.results.now)
+            (length self.entry.diagnostics.now) }
+    {
+        let h = self.header;
+        (self.book.len() == h.book)
+            && (self.results.len() == agree::following(h.cause, h.results))
+            && (self.diagnostics.len() == agree::following(h.cause, h.diagnostics))
+    }
 
-/// What is found of an answer that is handed over whole: its book is lowered into slices as long as the answer says.
-pub(crate) fn replay_answer(h: Header, book: &[u8], results: &[u8], diagnostics: &[u8]) -> Outcome
-    ensures { result ≡ outcome h book.now results.now diagnostics.now }
-{
-    let mut own = [0u8; RESULT_BYTES];
-    let mut told = [0u8; DIAGNOSTIC_BYTES];
-    let r = (h.results.lent as usize).min(RESULT_BYTES);
-    let d = (h.diagnostics.lent as usize).min(DIAGNOSTIC_BYTES);
-    replay_into(h, book, results, diagnostics, &mut own[..r], &mut told[..d])
+    // Whether the answer has the form that it should have, before its book is lowered.
+    #[tactic(auto, unfolding(crate::specs::Finding::formed))]
+    fn is_formed(self) -> bool
+        ensures { result
+            ≡ formed self.entry.header (length self.entry.book.now) (length self.entry.results.now)
+            (length self.entry.diagnostics.now) }
+    {
+        agree::header_agrees(self.header)
+            && agree::book_suits(self.header, self.book.len())
+            && self.is_complete()
+    }
+
+    // What is found when the book is lowered into two slices. Byte i of that for the results is lent as 5 i + 17, of
+    // that for the diagnostics as 3 i + 29, modulo 256.
+    fn replay_into(self, own_results: &mut [u8], own_diagnostics: &mut [u8]) -> Finding
+        ensures { result
+            ≡ finding_into self.entry.header self.entry.book.now self.entry.results.now self.entry.diagnostics.now
+            (patterned (length own_results.old) 5 17) (patterned (length own_diagnostics.old) 3 29) }
+    {
+        RESULT_PATTERN.fill(own_results);
+        DIAGNOSTIC_PATTERN.fill(own_diagnostics);
+        let Header {
+            cause,
+            results,
+            diagnostics,
+            ..
+        } = self.header;
+        let reply = lower::lower_book(self.book, own_results, own_diagnostics);
+        let formed = self.is_formed();
+        let agrees = said::reply_agrees(self.header, reply)
+            & said::slice_agrees(cause, results, self.results, own_results, RESULT_PATTERN)
+            & said::slice_agrees(
+                cause,
+                diagnostics,
+                self.diagnostics,
+                own_diagnostics,
+                DIAGNOSTIC_PATTERN,
+            );
+        found(formed & agrees, reply)
+    }
+
+    /// What is found of the answer: its book is lowered into slices as long as the answer says.
+    pub(crate) fn replay(self) -> Finding
+        ensures { result
+            ≡ finding self.entry.header self.entry.book.now self.entry.results.now self.entry.diagnostics.now }
+    {
+        let mut own_results = [0u8; RESULT_BYTES];
+        let mut own_diagnostics = [0u8; DIAGNOSTIC_BYTES];
+        let r = self.header.results.lent.min(RESULT_BYTES);
+        let d = self.header.diagnostics.lent.min(DIAGNOSTIC_BYTES);
+        self.replay_into(&mut own_results[..r], &mut own_diagnostics[..d])
+    }
 }

@@ -1,23 +1,23 @@
 //! Bytes of a list of answers: numbers and names.
 
-ghost use Rattle.std.specs.Prelude.{◌≡◌, ◌+◌, ◌≤◌, length};
+ghost use Rattle.std.specs.Prelude.{◌≡◌, ◌≤◌, length};
 ghost use Rattle.replay.specs.Bytes.{zeros, printed, is_name};
 ghost use Rattle.replay.specs.Layout.{number_at};
 
+use record::bytes::{four, from};
+
 /// The number in the four bytes from a place on, least significant byte first.
-#[tactic(auto, using(crate::proofs::Scans::number_there))]
 pub(crate) fn number(s: &[u8], at: usize) -> u32
-    requires { at + 4 ≤ length s.now }
     ensures { result ≡ number_at s.now at }
 {
-    u32::from_le_bytes([s[at], s[at + 1], s[at + 2], s[at + 3]])
+    four(from(s, at))
 }
 
 /// Whether every byte is zero.
 pub(crate) fn all_zero(s: &[u8]) -> bool
     ensures { result ≡ zeros s.now }
 {
-    s.iter().all(|byte| *byte == 0)
+    record::bytes::are_zero(s)
 }
 
 /// The number of printable characters at the front of s.

@@ -1,6 +1,6 @@
 //! What is proved of what is found of an answer: each claim is what a function that does nothing ensures.
 
-ghost use Rattle.replay.specs.Outcome.{RightIfLowered};
+ghost use Rattle.replay.specs.Finding.{RightIfLowered};
 ghost use Rattle.replay.specs.Said.{AgreesIfEqual};
 
 /// An answer is right exactly if it has its form, and lowering its book gives what it says.

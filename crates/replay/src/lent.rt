@@ -26,8 +26,8 @@ impl Pattern {
     pub(crate) fn fill(self, s: &mut [u8])
         ensures { s.new ≡ patterned (length s.old) self.step self.first }
     {
-        for i in 0..s.len() {
-            s[i] = self.byte(i);
+        for (i, place) in s.iter_mut().enumerate() {
+            *place = self.byte(i);
         }
     }
 
@@ -35,11 +35,9 @@ impl Pattern {
     pub(crate) fn goes_on(self, s: &[u8], at: usize) -> bool
         ensures { result ≡ same (drop at s.now) (drop at (patterned (length s.now) self.step self.first)) }
     {
-        for i in at..s.len() {
-            if s[i] != self.byte(i) {
-                return false;
-            }
-        }
-        true
+        s.iter()
+            .enumerate()
+            .skip(at)
+            .all(|(i, byte)| *byte == self.byte(i))
     }
 }

@@ -3,28 +3,34 @@
 ghost use Rattle.std.specs.Prelude.{◌≡◌};
 ghost use Rattle.replay.specs.Range.{part_in_range, in_range, well_formed};
 
-use crate::layout::{DIAGNOSTIC_LIMIT, Header, Part, RESULT_LIMIT};
+use crate::answer::{DIAGNOSTIC_BYTES, RESULT_BYTES};
+use crate::layout::{Header, Part};
 use crate::{bytes, layout};
+use book::{BLOCKS, RECORDS};
+use record::BLOCK_BYTES;
+use types::{MOST_DIAGNOSTICS, MOST_RESULTS};
+
+// The longest book in a list: one block past the limit.
+const BOOK_BYTES: usize = (BLOCKS + 1) * BLOCK_BYTES;
 
 // Whether the numbers of a slice are in range: at most `bytes` lent, at most `most` records, and no more changed than
 // lent.
-fn part_in_range(bytes: u32, most: u32, part: Part) -> bool
+fn part_in_range(bytes: usize, most: u16, part: Part) -> bool
     ensures { result ≡ part_in_range bytes most part }
 {
-    (part.lent <= bytes) && (part.count <= most) && (part.changed <= part.lent)
+    (part.lent <= bytes) && (part.count <= u32::from(most)) && (part.changed <= part.lent)
 }
 
-// Whether every number of a header is in range.
+// Whether every number of a header but that of its cause is in range.
 #[tactic(auto, unfolding(crate::specs::Range::in_range))]
 fn in_range(h: Header) -> bool
     ensures { result ≡ in_range h }
 {
-    (h.book <= 33280)
-        && (h.cause <= 10)
-        && (h.place < 1344)
+    (h.book <= BOOK_BYTES)
+        && (h.place < RECORDS as u32)
         && (h.constants <= h.results.count)
-        && part_in_range(49200, RESULT_LIMIT, h.results)
-        && part_in_range(6192, DIAGNOSTIC_LIMIT, h.diagnostics)
+        && part_in_range(RESULT_BYTES, MOST_RESULTS, h.results)
+        && part_in_range(DIAGNOSTIC_BYTES, MOST_DIAGNOSTICS, h.diagnostics)
 }
 
 /// Whether the 64 bytes of s are a header that can be read on from.
@@ -32,5 +38,5 @@ fn in_range(h: Header) -> bool
 pub(crate) fn header_ok(s: &[u8; 64]) -> bool
     ensures { result ≡ well_formed s.now }
 {
-    bytes::is_name(&s[..24]) && in_range(layout::header_of(s))
+    bytes::is_name(&s[..24]) && (bytes::number(s, 36) <= 10) && in_range(layout::header_of(s))
 }

@@ -1,8 +1,8 @@
 //! The totals of a list.
 
-ghost use Rattle.std.specs.Prelude.{◌≡◌, ◌+◌, ◌*◌, ◌≤◌, ◌<◌, ◌^◌};
+ghost use Rattle.std.specs.Prelude.{◌≡◌, ◌+◌, ◌*◌, ◌≤◌, ◌<◌, ◌^◌, Some};
 
-use crate::answer::Outcome;
+use crate::answer::Finding;
 use std::fmt;
 
 /// The counts of results, diagnostics and constants are sums over the books that the lowering accepts.
@@ -15,7 +15,7 @@ pub struct Totals {
     pub diagnostics: u64,
     pub constants: u64,
     pub wrong: u64,
-    // what so many answers can have added up to
+    // The most that so many answers add up to.
     ghost books: { accepted + refused ≡ answers },
     ghost results_bound: { results ≤ 65535 * answers },
     ghost diagnostics_bound: { diagnostics ≤ 65535 * answers },
@@ -26,7 +26,7 @@ pub struct Totals {
 impl Totals {
     ghost use Rattle.replay.specs.Totals.{CountsOne};
 
-    /// Nothing counted yet.
+    /// Nothing counted yet. By hand, since a struct with ghost fields derives no `Default`.
     pub(crate) fn new() -> Self
         ensures { result.answers ≡ 0 }
     {
@@ -42,12 +42,12 @@ impl Totals {
     }
 
     /// One answer more.
-    pub(crate) fn count(&mut self, outcome: Outcome)
+    pub(crate) fn count(&mut self, finding: Finding)
         requires { self.old.answers < 2 ^ 32 }
-        ensures { CountsOne self.old outcome self.new }
+        ensures { CountsOne self.old finding self.new }
     {
         self.answers += 1;
-        match outcome.counts {
+        match finding.counts {
             Some(counts) => {
                 self.accepted += 1;
                 self.results += u64::from(counts.results);
@@ -56,18 +56,26 @@ impl Totals {
             }
             None => self.refused += 1,
         }
-        self.wrong += u64::from(!outcome.right);
+        self.wrong += u64::from(!finding.right);
     }
 }
 
 impl fmt::Display for Totals {
+    ghost use Rattle.replay.specs.Totals.{lines_of};
+
+    ghost output = { λ totals. Some (lines_of totals) };
+
     fn fmt<W: fmt::Write>(&self, f: &mut fmt::Formatter<W>) -> fmt::Result {
-        writeln!(f, "answers {}", self.answers)?;
-        writeln!(f, "accepted {}", self.accepted)?;
-        writeln!(f, "refused {}", self.refused)?;
-        writeln!(f, "results {}", self.results)?;
-        writeln!(f, "diagnostics {}", self.diagnostics)?;
-        writeln!(f, "constants {}", self.constants)?;
-        writeln!(f, "wrong {}", self.wrong)
+        write!(
+            f,
+            "answers {}\naccepted {}\nrefused {}\nresults {}\ndiagnostics {}\nconstants {}\nwrong {}\n",
+            self.answers,
+            self.accepted,
+            self.refused,
+            self.results,
+            self.diagnostics,
+            self.constants,
+            self.wrong
+        )
     }
 }

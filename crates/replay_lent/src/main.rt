@@ -1,7 +1,7 @@
 //! Reads answers on standard input, one after the other to its end: each a header of 16 bytes and a book. It lowers
-//! each book by `lower_lent`, into slices that hold a pattern and with counters that mean nothing, and prints a line for
-//! it: the four words of the reply, the three counters, and one number made of every field of every struct and of the
-//! front of the results. Where the input ends within an answer, or a header asks for more than there is, it prints
+//! each book by `lower_lent`, into slices that hold a pattern and with counters that mean nothing, and prints a line
+//! for it: the four words of the reply, the three counters, and one number made of every field of every struct and of
+//! the front of the results. Where the input ends within an answer, or a header asks for more than there is, it prints
 //! `broken` and stops.
 
 #![tactic(auto)]
@@ -10,15 +10,15 @@ ghost use Rattle.std.specs.Prelude.{◌≤◌, ◌<◌};
 
 use lent::{Diagnostic, ErrorClass};
 use lower::Counts;
-use record::Span;
 use record::refusal::Refusal;
+use record::{RECORD_BYTES, Span};
 use std::io;
-use types::LowerCtx;
+use types::{LowerCtx, MOST_RESULTS};
 
 // As many bytes of results and structs as there are to lend: two records, or two structs, past the limits.
-const RESULT_BYTES: usize = 49200;
+const RESULT_BYTES: usize = RECORD_BYTES * (MOST_RESULTS as usize + 2);
 
-const STRUCTS: usize = 258;
+const STRUCTS: usize = lent::MOST + 2;
 
 // The modulus of the digest, the greatest prime below 2^32.
 const PRIME: u64 = 4294967291;
@@ -56,7 +56,8 @@ fn lent_struct(i: usize) -> Diagnostic
     }
 }
 
-// Byte i of the results, as lent.
+// Byte i of the results, as lent. `replay` fills its results with the same bytes; it keeps what is proved of them in
+// its own definitions, and the two programs share only how they read, which is `answers`.
 fn lent_byte(i: usize) -> u8 {
     ((5 * (i % 256) + 17) % 256) as u8
 }
@@ -69,13 +70,13 @@ fn digest(h: u64, x: u64) -> u64 {
 // The digest h with every field of a struct behind it.
 fn digest_struct(h: u64, d: Diagnostic) -> u64 {
     let fields = [
-        d.kind as u64,
-        d.message as u64,
-        d.name as u64,
-        d.member as u64,
-        d.class as u64,
-        d.span.offset as u64,
-        d.span.len as u64,
+        u64::from(d.kind),
+        u64::from(d.message),
+        u64::from(d.name),
+        u64::from(d.member),
+        d.class.number(),
+        u64::from(d.span.offset),
+        u64::from(d.span.len),
     ];
     fields.iter().fold(h, |h, x| digest(h, *x))
 }
@@ -83,7 +84,9 @@ fn digest_struct(h: u64, d: Diagnostic) -> u64 {
 // One number made of all structs and of the bytes that are shown.
 fn digest_of(structs: &[Diagnostic], shown: &[u8]) -> u64 {
     let told = structs.iter().fold(0, |h, d| digest_struct(h, *d));
-    shown.iter().fold(told, |h, byte| digest(h, *byte as u64))
+    shown
+        .iter()
+        .fold(told, |h, byte| digest(h, u64::from(*byte)))
 }
 
 // The line of an answer.
@@ -129,13 +132,15 @@ fn lower_and_print<P: Print>(rt: &P, loan: Loan, book: &[u8]) -> io::Result<()>
 // input, it has answers in the text in its place.
 
 use answers::{Stop, read_part};
+use book::BLOCKS;
+use record::{BLOCK_BYTES, bytes};
 use std::io::{BufRead, Read};
 
 // The longest book that is read, one block past the limit.
-const BOOK_BYTES: usize = 33280;
+const BOOK_BYTES: usize = (BLOCKS + 1) * BLOCK_BYTES;
 
-// The most bytes of the results that count in a line.
-const MOST_SHOWN: usize = 1200;
+// The most bytes of the results that count in a line, those of fifty records.
+const MOST_SHOWN: usize = 50 * RECORD_BYTES;
 
 // The header of an answer: the length of the book, and what is lent.
 #[derive(Clone, Copy, Debug)]
@@ -144,19 +149,19 @@ struct Header {
     loan: Loan,
 }
 
-// The number in four bytes.
-fn number(bytes: [u8; 4]) -> usize {
-    u32::from_le_bytes(bytes) as usize
+// The number in the four bytes from a place on.
+fn number(header: &[u8; 16], at: usize) -> usize {
+    bytes::four(bytes::from(header, at)) as usize
 }
 
 impl From<[u8; 16]> for Header {
-    fn from(b: [u8; 16]) -> Self {
+    fn from(header: [u8; 16]) -> Self {
         Header {
-            book: number([b[0], b[1], b[2], b[3]]),
+            book: number(&header, 0),
             loan: Loan {
-                results: number([b[4], b[5], b[6], b[7]]),
-                structs: number([b[8], b[9], b[10], b[11]]),
-                shown: number([b[12], b[13], b[14], b[15]]),
+                results: number(&header, 4),
+                structs: number(&header, 8),
+                shown: number(&header, 12),
             },
         }
     }
@@ -178,7 +183,8 @@ fn run_answer<P: Print + AllocGlobal, R: Read>(rt: &P, reader: &mut R) -> Result
     Ok(())
 }
 
-// Reads answers to the end of the input.
+// Reads answers to the end of the input. It goes by a count that no input reaches, since a loop has to have an end, and
+// how long an input is cannot be known.
 fn run<P: Print + AllocGlobal, R: BufRead>(rt: &P, reader: &mut R) -> Result<(), Stop> {
     for _ in 0..u64::MAX {
         if reader.fill_buf()?.is_empty() {

@@ -1,4 +1,5 @@
--- Wrong lowerings fail demand 3, by K1 and K6; and books that meet what it asks, by computing what is read from their bytes.
+-- Wrong lowerings fail the claim that constants keep their values, by K1 and K6; and books that meet what it asks, by
+-- computing what is read from their bytes.
 -- Assumes nothing.
 use Prim.Native.Nat.{ℕ}
 use mathlib.Core.Bool.{Bool, true, false, ◌&&◌, true≢false, false≢true}
@@ -105,7 +106,7 @@ not_standing x answer none_stores z s =
     let so : stores_two s.entry ≡ true = rw s.marked (eq-eqb s.entry.a N2 s.name) in
     true≢false (sym (mem_any stores_two (rw counts at s.counted) so) ∙ none_stores)
 
--- of a lowering that accepts K1 or K1 changed without N2 demand 3 says that N2 stands, as K1 has it stored
+-- of a lowering that accepts K1 or K1 changed without N2 the claim says that N2 stands, as K1 has it stored
 fails :
     (lower : AnyLowering) (answer : IsAccepted (lower first (replicate 480 0) (replicate 48 7))) →
     any stores_two (first_records answer.results (lower first (replicate 480 0) (replicate 48 7)).results) ≡ false →
@@ -336,7 +337,7 @@ beside_ring =
       value = refl;
     }
 
--- what demand 3 asks, of K1 and each of the other two
+-- what the claim asks, of K1 and each of the other two
 first_and_changed : Asked first changed
 first_and_changed =
     record {

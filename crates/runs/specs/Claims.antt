@@ -1,4 +1,5 @@
--- What result and diagnostic records say, in document 01's words: the claims that the known answers are read by.
+-- What result and diagnostic records say: the claims that the known answers are read by. Words in quotation marks are
+-- rules of docs/FORMAT.md in brief.
 -- Assumes nothing.
 use Rattle.std.specs.Prelude.{ℕ, Bool, true, false, ◌&&◌, List, [], ◌∷◌, eqb, ℤ, pos, negsuc, neg_ℤ, take}
 use Rattle.record.specs.declared.Record.{Record}
@@ -36,7 +37,8 @@ same_integer (pos m) (negsuc n) = false
 same_integer (negsuc m) (pos n) = false
 same_integer (negsuc m) (negsuc n) = eqb m n
 
--- the constant n is stored with a value: "41 reached constant (sub 1 stored, a, b type, v value or 0)", v being read as an i64
+-- the constant n is stored with a value: "41 reached constant (sub 1 stored, a, b type, v value or 0)", v being read as
+-- an i64
 abbrev pub stored : ℕ → ℤ → Claim
 stored n z results diagnostics =
     the_one (λ r. eqb r.sub 1 && same_integer (signed r.v) z) (naming 41 n results)

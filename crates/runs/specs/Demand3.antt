@@ -1,5 +1,5 @@
--- Demand 3 (crates/lower/specs/Demand3.antt): wrong lowerings fail it, and real books meet what it asks. The proofs are in
--- proofs/Demand3.antt. Words in quotation marks are the demand's or document 01's.
+-- That constants keep their values (crates/lower/specs/Demand3.antt): wrong lowerings fail this claim, and real books
+-- meet what it asks. The proofs are in proofs/Demand3.antt.
 -- Assumes nothing.
 use Rattle.std.specs.Prelude.{ℕ, true, false, ◌↔◌, ◌≡◌, ℤ, pos, take, replicate}
 use mathlib.Core.List.{List, [], ◌∷◌, ◌++◌, map, Memᴰ}
@@ -31,15 +31,15 @@ lower_with constants_of book results diagnostics =
 abbrev pub lower_changed : (List Settled → List Settled) → AnyLowering
 lower_changed change = lower_with (λ book. change (settled book))
 
--- "Storing nothing": each reached constant without a value
+-- Nothing is stored: each reached constant without a value
 abbrev pub stores_nothing : AnyLowering
 stores_nothing = lower_changed (map (λ x. record { constant = x.constant; value = none }))
 
--- "settles the first constant and marks the others unreached"
+-- The first constant is settled, and the others are marked unreached
 abbrev pub settles_first : AnyLowering
 settles_first = lower_changed (take 1)
 
--- "evaluating K6 to 9": a constant is reached though its expression names a declared one twice
+-- K6 is evaluated to 9: a constant is reached though its expression names a declared one twice
 abbrev pub stores_squares : AnyLowering
 stores_squares = lower_with (λ book. outcome once empty (constants book))
 
@@ -51,8 +51,8 @@ first = book_of false k1.book
 abbrev pub square : List ℕ
 square = book_of false k6.book
 
--- K1 changed: N2 stands before N1, N3 = N2 + N1 is added, and a message with a field; N1 has another type, spans differ, and wildcard imports
--- exist
+-- K1 changed: N2 stands before N1, N3 = N2 + N1 is added, and a message with a field; N1 has another type, spans
+-- differ, and wildcard imports exist
 abbrev pub changed : List ℕ
 changed =
     book_of
@@ -122,8 +122,8 @@ SettlingTheFirstFails = Demand3 settles_first → ⊥
 abbrev pub StoringSquaresFails : Type 0
 StoringSquaresFails = Demand3 stores_squares → ⊥
 
--- and the first two accept K1 and K1 changed and fail what it says of these: "every constant that demand 2 says is stored for the first is stored
--- for the second" (N3 is added, so nothing else is said)
+-- and the first two accept K1 and K1 changed and fail what it says of these: what is stored for the first is stored for
+-- the second (N3 is added, so nothing else is said)
 pub record FailsKept (lower : AnyLowering) : Type 0 where
   pub one_accepted : IsAccepted (lower first (replicate 480 0) (replicate 48 7))
   pub other_accepted : IsAccepted (lower changed (replicate 700 255) (replicate 90 9))
@@ -138,8 +138,8 @@ pub record FailsKept (lower : AnyLowering) : Type 0 where
 abbrev pub WrongOnesFailKept : Type 0
 WrongOnesFailKept = FailsKept stores_nothing × FailsKept settles_first
 
--- Books that meet what it asks. What demand 3 asks of two books: both accepted, and "the second declares every constant of the first with the same
--- expression"
+-- Books that meet what it asks. What it asks of two books: both are accepted, and the second declares every constant of
+-- the first with the same expression
 pub record Asked (one other : List ℕ) : Type 0 where
   pub one_bytes : AreBytes one
   pub other_bytes : AreBytes other
@@ -154,34 +154,34 @@ pub record Declares (book : List ℕ) (n : ℕ) (P : Constant → Type 0) : Type
   pub name : constant.name ≡ n
   pub so : P constant
 
--- "every constant that demand 2 says is stored for the first is stored for the second, with the same value": K1 and K1 changed
+-- what is stored for the first is stored for the second, with the same value: K1 and K1 changed
 pub record KeptInstance : Type 0 where
   pub asked : Asked first changed
   pub stored : StoredFor first N2 (pos 42)
-  -- so demand 3 says
+  -- so the claim says
   pub kept : StoredFor changed N2 (pos 42)
   pub stands : Stands (lowered first) N2 (pos 42)
   pub stands_elsewhere : Stands (elsewhere changed) N2 (pos 42)
 
--- "Where none is added, the two store exactly the same names with the same values": K1 and K1 reordered
+-- where none is added, both store exactly the same names with the same values: K1 and K1 reordered
 pub record SameInstance : Type 0 where
   pub asked : Asked first reordered
   pub none_added : AddsNoneTo reordered first
-  -- so demand 3 says
+  -- so the claim says
   pub same : (n : ℕ) (z : ℤ) → Stands (lowered first) n z ↔ Stands (elsewhere reordered) n z
 
--- "no accepted book itself stores a constant that lies on a ring of its references or leads into one"
+-- no constant that lies on a ring of references, or leads into one, is stored
 pub record RingInstance : Type 0 where
   pub bytes : AreBytes ring
   pub is_accepted : IsAccepted (lowered ring)
   pub on_ring : Declares ring N1 (LiesOnRing (constants (read ring)))
   pub into_ring : Declares ring N3 (LeadsIntoRing (constants (read ring)))
   pub beside : Stands (lowered ring) N4 (pos 5)
-  -- so demand 3 says
+  -- so the claim says
   pub not_on_ring : (z : ℤ) → Stands (lowered ring) N1 z → ⊥
   pub not_into_ring : (z : ℤ) → Stands (lowered ring) N3 z → ⊥
 
--- no part of demand 3 is empty
+-- no part of the claim is empty
 pub record Instances : Type 0 where
   pub kept : KeptInstance
   pub same : SameInstance

@@ -1,5 +1,6 @@
--- Small books for the rules that K1 to K12 and the books beside them do not come to, with their replies and records, each record worked out by hand
--- from document 01. Records stand as in Known.antt. Words in quotation marks are document 01's.
+-- Small books for the rules that K1 to K12 and the books beside them do not come to, with their replies and records,
+-- each record worked out by hand from the format. Records stand as in Known.antt. Words in quotation marks are
+-- rules of docs/FORMAT.md in brief.
 -- Assumes nothing.
 use Rattle.std.specs.Prelude.{ℕ, true, false, List, [], ◌∷◌, pos}
 use Rattle.book.specs.Lists.{All}
@@ -27,8 +28,8 @@ Last = 4095
 abbrev pub zigzag : ℕ
 zigzag = 2
 
--- And over a comparison with Value and Not over a range of lengths. "an item's type, then its constraint, precede it"; "children first,
--- left before right"; "Value becomes Int 0".
+-- And over a comparison with Value and Not over a range of lengths. "an item's type, then its constraint, precede it";
+-- "children first, left before right"; "Value becomes Int 0".
 abbrev pub and_not : Known
 and_not =
     record {
@@ -63,8 +64,8 @@ and_not =
       says = [];
     }
 
--- Or over the length of a String and a range from Bool to Float, in the book right before left; the highest ordinal; a second field
--- without a constraint.
+-- Or over the length of a String and a range from Bool to Float, in the book right before left; the highest ordinal; a
+-- second field without a constraint.
 abbrev pub or_of_operands : Known
 or_of_operands =
     record {
@@ -102,8 +103,9 @@ or_of_operands =
       says = [];
     }
 
--- Since before reason and reason before since, a reason without a string before one with a string, other keys; with a type and without.
--- "Reason and since are the first string under each key"; "47 tombstone (a reason, b since, rest as 32)".
+-- Since before reason and reason before since, a reason without a string before one with a string, other keys; with a
+-- type and without. "Reason and since are the first string under each key"; "47 tombstone (a reason, b since, rest as
+-- 32)".
 abbrev pub tombstones : Known
 tombstones =
     record {
@@ -135,9 +137,9 @@ tombstones =
       says = [];
     }
 
--- Variants with fields, and both sorts of tombstones: "32 tombstone (sub 1 belongs to the union itself, else 0)". One of the union
--- stands before any variant, and a variant opens the union again. Names and ordinals of items may come again; a type may be the union
--- itself.
+-- Variants with fields, and both sorts of tombstones: "32 tombstone (sub 1 belongs to the union itself, else 0)". One
+-- of the union stands before any variant, and a variant opens the union again. Names and ordinals of items may come
+-- again; a type may be the union itself.
 abbrev pub unions : Known
 unions =
     record {
@@ -209,8 +211,8 @@ highest =
       says = [];
     }
 
--- "varint wins over zigzag; delta wraps the base": zigzag and varint, delta and zigzag, zigzag, and another annotation with an
--- argument. The message's own varint is nothing to its fields.
+-- "varint wins over zigzag; delta wraps the base": zigzag and varint, delta and zigzag, zigzag, and another annotation
+-- with an argument. The message's own varint is nothing to its fields.
 abbrev pub encodings : Known
 encodings =
     record {
@@ -304,8 +306,8 @@ delta_integers =
           ∷ [];
     }
 
--- f32 to fixed64 and a sub-byte in a delta message: "resolved to primitive 1-12 or sub-byte become delta over: [..] else what they
--- had".
+-- f32 to fixed64 and a sub-byte in a delta message: "resolved to primitive 1-12 or sub-byte become delta over: [..]
+-- else what they had".
 abbrev pub delta_what_they_had : Known
 delta_what_they_had =
     record {
@@ -350,8 +352,8 @@ delta_what_they_had =
       says = delta_over N2 varint ∷ delta_over N3 default ∷ delta_over N4 zigzag ∷ delta_over N5 default ∷ delta_over N6 zigzag ∷ [];
     }
 
--- Void, a declared type and an optional u8 in a delta message stay as they are, and so does u64 with delta and zigzag of its own:
--- "fields not yet delta".
+-- Void, a declared type and an optional u8 in a delta message stay as they are, and so does u64 with delta and zigzag
+-- of its own: "fields not yet delta".
 abbrev pub delta_not_eligible : Known
 delta_not_eligible =
     record {
@@ -439,8 +441,8 @@ delta_through_alias =
       says = delta_over N3 zigzag ∷ no_delta N4 default ∷ no_delta N5 default ∷ no_delta N6 default ∷ [];
     }
 
--- "Limit is the first keyless Int or Hex in the first limit annotation having one": the Hex behind an Int with a key, and nothing of
--- the second limit. The message's delta leaves it as it is.
+-- "Limit is the first keyless Int or Hex in the first limit annotation having one": the Hex behind an Int with a key,
+-- and nothing of the second limit. The message's delta leaves it as it is.
 abbrev pub limits : Known
 limits =
     record {
@@ -503,8 +505,8 @@ no_limits =
       says = no_delta N2 default ∷ limited N3 0 ∷ [];
     }
 
--- Types that no other book has. Each is written where its newtype is, not where it stands in the book; "FixedArray with size v"; list
--- number 65,535 is one like any other. A type that nothing uses says nothing.
+-- Types that no other book has. Each is written where its newtype is, not where it stands in the book; "FixedArray with
+-- size v"; list number 65,535 is one like any other. A type that nothing uses says nothing.
 abbrev pub shapes : Known
 shapes =
     record {
@@ -569,8 +571,8 @@ more_shapes =
       says = [];
     }
 
--- "plain alias (its result copied)": a map that is copied twice, each time with references of its own, once by an alias of the alias.
--- N1 names N2 before N2 is lowered, so it is poison, which is copied without a diagnostic.
+-- "plain alias (its result copied)": a map that is copied twice, each time with references of its own, once by an alias
+-- of the alias. N1 names N2 before N2 is lowered, so it is poison, which is copied without a diagnostic.
 abbrev pub plain_aliases : Known
 plain_aliases =
     record {
@@ -625,8 +627,9 @@ plain_aliases =
       says = one_message 1 N2 100 1 ∷ newtype_over N5 poison ∷ [];
     }
 
--- "Lookup tries the name's own number, then a plain alias to one": N2 is a plain alias to the generic alias N1, and is a head as N1 is;
--- N4 is one to the newtype N3, whose number is of no generic alias. Numbers: the newtypes 0 and 1, "then generic aliases".
+-- "Lookup tries the name's own number, then a plain alias to one": N2 is a plain alias to the generic alias N1, and is
+-- a head as N1 is; N4 is one to the newtype N3, whose number is of no generic alias. Numbers: the newtypes 0 and 1,
+-- "then generic aliases".
 abbrev pub alias_as_head : Known
 alias_as_head =
     record {
@@ -665,8 +668,9 @@ alias_as_head =
       says = newtype_over N3 (array_of u8) ∷ newtype_over N5 poison ∷ one_message 3 N4 220 4 ∷ [];
     }
 
--- "Qualified: known pair; stub if the namespace name has a number": N2 is a plain alias to the newtype N1, and has its number. The
--- second N2.N5 has the number of the first, N1.N5 one of its own. A pair gives its names no number: N5.N2 is message 2.
+-- "Qualified: known pair; stub if the namespace name has a number": N2 is a plain alias to the newtype N1, and has its
+-- number. The second N2.N5 has the number of the first, N1.N5 one of its own. A pair gives its names no number: N5.N2
+-- is message 2.
 abbrev pub qualified : Known
 qualified =
     record {
@@ -706,8 +710,8 @@ qualified =
       says = newtype_over N3 (map_of (number 4) (number 4)) ∷ newtype_over N4 (number 5) ∷ newtype_over N6 poison ∷ [];
     }
 
--- N1 is an alias of the unknown Foo, message 1. "poison counts": N1 has a number, so N1.N2 is a stub, while N1 of u8 is message 3. Foo
--- has none: Foo.N2 is message 2, and again at the next use.
+-- N1 is an alias of the unknown Foo, message 1. "poison counts": N1 has a number, so N1.N2 is a stub, while N1 of u8 is
+-- message 3. Foo has none: Foo.N2 is message 2, and again at the next use.
 abbrev pub poison_counts : Known
 poison_counts =
     record {
@@ -747,8 +751,9 @@ poison_counts =
       says = newtype_over N2 (map_of poison poison) ∷ newtype_over N3 (number 3) ∷ newtype_over N4 poison ∷ [];
     }
 
--- N2<T> = N1 of T, N1<U> = Foo of U; N2 of u8, and Foo of u8. "no number gives message 4 (inside a substitution 1)". "A generic's
--- target takes the span of the use": that of N2 of u8 is handed on through the target of N2, which is a use of N1, to the target of N1.
+-- N2<T> = N1 of T, N1<U> = Foo of U; N2 of u8, and Foo of u8. "no number gives message 4 (inside a substitution 1)". "A
+-- generic's target takes the span of the use": that of N2 of u8 is handed on through the target of N2, which is a use
+-- of N1, to the target of N1.
 abbrev pub handed_on : Known
 handed_on =
     record {
@@ -783,8 +788,8 @@ handed_on =
       says = [];
     }
 
--- N1<T, T> = map of T, optional of T, and N1 of Foo of u8: the argument is resolved at each place of T, and outside the target, where
--- Foo gives message 4; "an argument as a whole [takes the span] of the parameter it replaces".
+-- N1<T, T> = map of T, optional of T, and N1 of Foo of u8: the argument is resolved at each place of T, and outside the
+-- target, where Foo gives message 4; "an argument as a whole [takes the span] of the parameter it replaces".
 abbrev pub argument_twice : Known
 argument_twice =
     record {
@@ -817,8 +822,8 @@ argument_twice =
       says = [];
     }
 
--- N1<T> = T: the whole target is the parameter, so Foo in N1 of Foo has the span of that use. "parts inside either keep their own": Foo
--- in N1 of array of Foo.
+-- N1<T> = T: the whole target is the parameter, so Foo in N1 of Foo has the span of that use. "parts inside either keep
+-- their own": Foo in N1 of array of Foo.
 abbrev pub whole_target : Known
 whole_target =
     record {
@@ -850,9 +855,9 @@ whole_target =
       says = newtype_over N3 (map_of poison (array_of poison)) ∷ [];
     }
 
--- N1<T> = map of T of u8, result of T.Foo, T, and a message T. The parameter is replaced at a bare name, there before "declared 20-22",
--- and never as head or namespace: T of u8 is message 3, in a target too, and T.Foo a stub behind N2, T and the generic aliases. The
--- target of N3, which nothing uses, says nothing.
+-- N1<T> = map of T of u8, result of T.Foo, T, and a message T. The parameter is replaced at a bare name, there before
+-- "declared 20-22", and never as head or namespace: T of u8 is message 3, in a target too, and T.Foo a stub behind N2,
+-- T and the generic aliases. The target of N3, which nothing uses, says nothing.
 abbrev pub only_bare_names : Known
 only_bare_names =
     record {
@@ -890,8 +895,8 @@ only_bare_names =
       says = one_message 3 T 110 2 ∷ [];
     }
 
--- A message, a constant and an ambiguous name N1: "20-23 share one set, 24 and 25 have one each". "Named, in order: plain alias [..];
--- declared 20-22; ambiguous": neither N1 nor the alias N2 is poison.
+-- A message, a constant and an ambiguous name N1: "20-23 share one set, 24 and 25 have one each". "Named, in order:
+-- plain alias [..]; declared 20-22; ambiguous": neither N1 nor the alias N2 is poison.
 abbrev pub one_name_in_three_sets : Known
 one_name_in_three_sets =
     record {
@@ -928,8 +933,8 @@ one_name_in_three_sets =
       says = stored N1 (pos 5) ∷ no_message ∷ [];
     }
 
--- "ambiguous (poison 4,294,967,295, message 0); known number; with wildcards a fresh stub": a bare generic alias N1 that is ambiguous,
--- and Foo, which is said to be ambiguous only behind its use. A head is not asked: N1 of u16 is u16.
+-- "ambiguous (poison 4,294,967,295, message 0); known number; with wildcards a fresh stub": a bare generic alias N1
+-- that is ambiguous, and Foo, which is said to be ambiguous only behind its use. A head is not asked: N1 of u16 is u16.
 abbrev pub ambiguous : Known
 ambiguous =
     record {
@@ -985,8 +990,8 @@ ambiguous_alone =
       says = newtype_over N1 poison ∷ one_message 0 Foo 100 1 ∷ [];
     }
 
--- Wildcards exist: "with wildcards a fresh stub". Foo and Bar get numbers behind the newtypes (0 and 1) and the generic alias (2), as
--- met; Foo has its number again, and is a namespace. A head with a stub's number is message 3.
+-- Wildcards exist: "with wildcards a fresh stub". Foo and Bar get numbers behind the newtypes (0 and 1) and the generic
+-- alias (2), as met; Foo has its number again, and is a namespace. A head with a stub's number is message 3.
 abbrev pub stubs : Known
 stubs =
     record {
@@ -1026,8 +1031,8 @@ stubs =
       says = newtype_over N4 poison ∷ one_message 3 Bar 220 4 ∷ [];
     }
 
--- N1 names Foo before the alias Foo = u8 is lowered, so Foo has a stub too. The bare name is the alias; as a namespace Foo has the
--- stub's number: "Lookup tries the name's own number" first.
+-- N1 names Foo before the alias Foo = u8 is lowered, so Foo has a stub too. The bare name is the alias; as a namespace
+-- Foo has the stub's number: "Lookup tries the name's own number" first.
 abbrev pub stub_before_alias : Known
 stub_before_alias =
     record {
@@ -1057,7 +1062,8 @@ stub_before_alias =
       says = newtype_over N2 (map_of u8 (number 2)) ∷ no_message ∷ [];
     }
 
--- The same where the alias is to the generic alias N3<T>: by its own number, the stub's, N2 is no generic alias, so N2 of u8 is message 3.
+-- The same where the alias is to the generic alias N3<T>: by its own number, the stub's, N2 is no generic alias, so N2
+-- of u8 is message 3.
 abbrev pub stub_before_generic : Known
 stub_before_generic =
     record {
@@ -1089,8 +1095,8 @@ stub_before_generic =
       says = newtype_over N4 poison ∷ one_message 3 N2 180 9 ∷ [];
     }
 
--- N1 = N2 - N3, N2 = N3 × 10, N3 = 7, N4 = N3: "always the earliest reached one whose declared references are done". That is N3, then
--- N2, then N1, which stands before N4.
+-- N1 = N2 - N3, N2 = N3 × 10, N3 = 7, N4 = N3: "always the earliest reached one whose declared references are done".
+-- That is N3, then N2, then N1, which stands before N4.
 abbrev pub constant_order : Known
 constant_order =
     record {
@@ -1128,7 +1134,8 @@ constant_order =
       says = stored N1 (pos 63) ∷ stored N2 (pos 70) ∷ stored N3 (pos 7) ∷ stored N4 (pos 7) ∷ [];
     }
 
--- N1 = N1, N2 = N3 + N1, N3 = 5: N1 is on a ring and N2 leads into it, "Unreached gives silence", also about their types.
+-- N1 = N1, N2 = N3 + N1, N3 = 5: N1 is on a ring and N2 leads into it, "Unreached gives silence", also about their
+-- types.
 abbrev pub rings : Known
 rings =
     record {
@@ -1155,8 +1162,8 @@ rings =
       says = silent N1 ∷ silent N2 ∷ stored N3 (pos 5) ∷ no_message ∷ [];
     }
 
--- N1 = Foo + Foo, N2 = N1: Foo is no declared constant, so N1 is reached, and N2 by it. "reached without a value gives message 5", at
--- the expression.
+-- N1 = Foo + Foo, N2 = N1: Foo is no declared constant, so N1 is reached, and N2 by it. "reached without a value gives
+-- message 5", at the expression.
 abbrev pub undeclared_twice : Known
 undeclared_twice =
     record {
@@ -1185,7 +1192,8 @@ undeclared_twice =
       says = without_value N1 ∷ without_value N2 ∷ [];
     }
 
--- "Float, Bool, comparisons, zero divisors [..] give none". The type comes first: message 1 of N1's type stands before its message 5.
+-- "Float, Bool, comparisons, zero divisors [..] give none". The type comes first: message 1 of N1's type stands before
+-- its message 5.
 abbrev pub valueless : Known
 valueless =
     record {

@@ -1,5 +1,6 @@
--- Document 01's known answers, K1 to K12: books with the replies and records that they are lowered to. A record stands as kind, sub, a, b,
--- c, v, span offset and span length, with its number behind it. Words in quotation marks are document 01's.
+-- The known answers K1 to K12 (docs/FORMAT.md, section 7): books with the replies and records that they are lowered to.
+-- A record stands as kind, sub, a, b, c, v, span offset and span length, with its number behind it. Words in quotation
+-- marks are rules of docs/FORMAT.md in brief.
 -- Assumes nothing.
 use Rattle.std.specs.Prelude.{ℕ, Bool, true, false, List, [], ◌∷◌, ◌≡◌, pos, length}
 use Rattle.record.specs.declared.Record.{Record}
@@ -29,8 +30,9 @@ leaving reply rs ds results diagnostics =
 abbrev pub Says : Known → Type 0
 Says k = All (λ claim. claim k.results k.diagnostics ≡ true) k.says
 
--- What is claimed of each: the bytes are read as these records; in slices of the full limits, whatever these hold, the book is lowered to
--- this reply and these records, and no other byte changes; the records say what document 01 states.
+-- What is claimed of each: the bytes are read as these records; in slices of the full limits, whatever these hold, the
+-- book is lowered to this reply and these records, and no other byte changes; the records say what is stated of the
+-- book.
 pub record Answered (k : Known) : Type 0 where
   pub reads : read (book_of k.wildcards k.book) ≡ record { records = k.book; wildcards = k.wildcards }
   pub lowers :
@@ -276,8 +278,9 @@ k9 =
       says = limited N2 7 ∷ [];
     }
 
--- "K10 Outer<T> = Inner<T>, Inner<U> = array of U; Outer of u8: array of poison, message 1 naming T"; "no wildcards, T and U undeclared".
--- The message has the span of the U in whose place T is resolved: "an argument as a whole [takes] that of the parameter it replaces".
+-- "K10 Outer<T> = Inner<T>, Inner<U> = array of U; Outer of u8: array of poison, message 1 naming T"; "no wildcards, T
+-- and U undeclared". The message has the span of the U in whose place T is resolved: "an argument as a whole [takes]
+-- that of the parameter it replaces".
 abbrev pub k10 : Known
 k10 =
     record {
@@ -307,8 +310,8 @@ k10 =
       says = newtype_over N3 (array_of poison) ∷ one_message 1 T 140 5 ∷ [];
     }
 
--- "K11 Pair<T, U> = map of T, U; Pair of u8: map of u8, poison"; "no wildcards, T and U undeclared". "Only the first parameter is
--- replaced", so U is an unknown name.
+-- "K11 Pair<T, U> = map of T, U; Pair of u8: map of u8, poison"; "no wildcards, T and U undeclared". "Only the first
+-- parameter is replaced", so U is an unknown name.
 abbrev pub k11 : Known
 k11 =
     record {
@@ -362,6 +365,6 @@ k12 =
 abbrev pub known : List Known
 known = k1 ∷ k2 ∷ k3 ∷ k4 ∷ k5 ∷ k6 ∷ k7 ∷ k8 ∷ k9 ∷ k10 ∷ k11 ∷ k12 ∷ []
 
--- "Marked K are proved together over the definitions, as one checked list". The proof is in proofs/Known.antt.
+-- K1 to K12 together, as one list. The proof is in proofs/Known.antt.
 abbrev pub KnownAnswers : Type 0
 KnownAnswers = All Answered known

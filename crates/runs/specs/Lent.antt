@@ -4,8 +4,8 @@ use Rattle.std.specs.Prelude.{ℕ, false, List, [], ◌∷◌, ◌≡◌, replic
 use Rattle.record.specs.Write.{with_records, cleared}
 use Rattle.types.specs.declared.LowerCtx.{LowerCtx}
 use Rattle.lower.specs.LowerBook.{accepted, refused}
-use Rattle.lent.specs.declared.ErrorClass.{ErrorClass}
-use Rattle.lent.specs.declared.ErrorClass.TheVariants.{UnresolvedType, AliasTargetNotFound, ConstRefNotFound}
+use Rattle.types.specs.declared.diagnostic.ErrorClass.{ErrorClass}
+use Rattle.types.specs.declared.diagnostic.ErrorClass.TheVariants.{UnresolvedType, AliasTargetNotFound, ConstRefNotFound}
 use Rattle.lent.specs.declared.Diagnostic.{Diagnostic}
 use Rattle.lent.specs.Diagnostics.{no_diagnostic}
 use Rattle.lent.specs.Lent.{LentOutcome, lower_lent}

@@ -1,5 +1,5 @@
--- Reading the books of K1 to K12: each is accepted, and so all that is promised of an accepted book holds of it. The proofs are in
--- proofs/Reading.antt.
+-- Reading the books of K1 to K12: each is accepted, and so all that is promised of an accepted book holds of it. The
+-- proofs are in proofs/Reading.antt.
 -- Assumes nothing.
 use Rattle.std.specs.Prelude.{◌≡◌, length}
 use Rattle.book.specs.Lists.{All}

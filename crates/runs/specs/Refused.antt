@@ -1,5 +1,5 @@
--- Books that are turned back, by their records or by their bytes, each with cause and place; and lowerings that are stopped. Words in quotation marks
--- are document 01's.
+-- Books that are turned back, by their records or by their bytes, each with cause and place; and lowerings that are
+-- stopped. Words in quotation marks are rules of docs/FORMAT.md in brief.
 -- Assumes nothing.
 use Rattle.std.specs.Prelude.{ℕ, zero, suc, ◌+◌, ◌*◌, true, false, ◌≡◌, eqb, length, take, drop, replicate}
 use mathlib.Core.List.{List, [], ◌∷◌, ◌++◌, map, flat_map}
@@ -220,7 +220,7 @@ children =
     ∷ back (bare 20 0 N1 0 0 0 ∷ u8 ∷ operand ∷ bare 31 0 N1 1 2 0 ∷ []) 5 3
     ∷ back (int ∷ bare 14 0 0 0 0 0 ∷ []) 5 1  -- a constant where an operand is meant
     ∷ back (operand ∷ int ∷ bare 15 0 0 1 0 0 ∷ []) 5 2
-    ∷ back (operand ∷ bare 14 0 0 0 0 0 ∷ operand ∷ bare 15 0 1 2 0 0 ∷ []) 5 3  -- a constraint where an operand is meant
+    ∷ back (operand ∷ bare 14 0 0 0 0 0 ∷ operand ∷ bare 15 0 1 2 0 0 ∷ []) 5 3  -- a constraint for an operand
     ∷ back (u8 ∷ bare 7 0 0 0 0 0 ∷ bare 7 0 0 0 0 0 ∷ []) 5 2  -- used before, by a type that nothing uses
     ∷ back (u8 ∷ bare 22 0 N1 0 0 0 ∷ bare 22 0 N1 0 0 0 ∷ []) 5 2  -- used before, by a declaration; 7 comes behind 5
     ∷ back (operand ∷ bare 14 0 0 0 0 0 ∷ bare 14 1 0 0 0 0 ∷ []) 5 2
@@ -438,7 +438,8 @@ union_tombstones =
     ∷ ended_union
     ∷ [])
 
--- "name declared again: 20-23 share one set, 24 and 25 have one each"; what has none of them stands in `edges` (Edges.antt)
+-- "name declared again: 20-23 share one set, 24 and 25 have one each"; what has none of them stands in `edges`
+-- (Edges.antt)
 abbrev pub names : List TurnedBack
 names =
     back (message ++ message) 7 1
@@ -484,7 +485,7 @@ depths =
     ∷ back (nots 63) 8 64
     ∷ []
 
--- "Depth 64 passes": none of causes 1 to 8
+-- depth 64 passes: none of causes 1 to 8
 abbrev pub Passes : List Record → Type 0
 Passes rs = first_refusal (book_of false rs) ≡ none
 
@@ -529,8 +530,8 @@ lengths =
     ∷ bytes (replicate 32768 0) 2 0
     ∷ []
 
--- "check of a block": its last word or another byte changed; 0000 is not FFFF; before "another block rule" in its block, behind one in an
--- earlier block, before every record
+-- "check of a block": its last word or another byte changed; 0000 is not FFFF; before "another block rule" in its
+-- block, behind one in an earlier block, before every record
 abbrev pub checks : List TurnedBack
 checks =
     bytes (changed 510 0 one) 2 0
@@ -564,8 +565,8 @@ block_rules =
     ∷ back (replicate 21 u8 ++ (bare 1 14 0 0 0 0 ∷ [])) 4 21  -- the first record of block 1
     ∷ []
 
--- A book, the bytes lent for results and for diagnostics, the cause and the place by which its lowering is stopped, and how many bytes of
--- each slice are zero then.
+-- A book, the bytes lent for results and for diagnostics, the cause and the place by which its lowering is stopped, and
+-- how many bytes of each slice are zero then.
 pub record Stopped : Type 0 where
   pub book : List Record
   pub results : ℕ
@@ -615,8 +616,8 @@ endless =
     ∷ bare 6 0 N1 4 0 0
     ∷ []
 
--- N1<T> = k optionals of T, and a newtype over N1 of N1 [..] of u8, m times N1: u8 is resolved at depth 1 + m × (k + 2), since "a step to a child, a
--- generic's target or a substituted argument adds 1"
+-- N1<T> = k optionals of T, and a newtype over N1 of N1 [..] of u8, m times N1: u8 is resolved at depth 1 + m × (k +
+-- 2), since "a step to a child, a generic's target or a substituted argument adds 1"
 abbrev pub towers : ℕ → ℕ → List Record
 towers k m =
     bare 4 0 10 0 0 0
@@ -625,7 +626,8 @@ towers k m =
     ++ over (λ n. bare 6 0 N1 n 0 0) m (k + 3)
     ++ (bare 22 0 N2 (k + 3 + m) 0 0 ∷ [])
 
--- K1 and others with too little room, each result of a message, a union, tombstones, aliases having none; and resolving that does not end
+-- K1 and others with too little room, each result of a message, a union, tombstones, aliases having none; and resolving
+-- that does not end
 abbrev pub stops : List Stopped
 stops =
     stop k1.book 95 23 10 7 72 0  -- K1 has 4 results: "one record more than a used limit"
@@ -655,9 +657,9 @@ stops =
     ∷ stop plain_aliases.book 600 23 10 1 600 0  -- message 1 of an alias
     ∷ stop plain_aliases.book 240 24 10 8 240 24  -- a copy
     ∷ stop plain_aliases.book 504 24 10 12 504 24  -- 48
-    ∷ stop (endless ++ (bare 22 0 N2 5 0 0 ∷ [])) 0 0 9 6 0 0  -- "resolving deeper than 64", nothing being written before
+    ∷ stop (endless ++ (bare 22 0 N2 5 0 0 ∷ [])) 0 0 9 6 0 0  -- "resolving deeper than 64", nothing is written
     ∷ stop (endless ++ (bare 22 0 N2 5 0 0 ∷ [])) 50 30 9 6 48 24
-    ∷ stop (endless ++ (u8 ∷ bare 8 0 6 5 0 0 ∷ bare 22 0 N2 7 0 0 ∷ [])) 23 24 10 8 0 24  -- map of u8, too deep: "first met" is 10
+    ∷ stop (endless ++ (u8 ∷ bare 8 0 6 5 0 0 ∷ bare 22 0 N2 7 0 0 ∷ [])) 23 24 10 8 0 24  -- "first met" is 10
     ∷ stop (endless ++ (u8 ∷ bare 8 0 5 6 0 0 ∷ bare 22 0 N2 7 0 0 ∷ [])) 23 24 9 8 0 24  -- map of too deep, u8
     ∷ stop (endless ++ (bare 23 0 N2 5 0 0 ∷ [])) 24 24 9 6 24 24  -- the place of an alias
     ∷ []

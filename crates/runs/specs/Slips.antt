@@ -1,5 +1,6 @@
--- Document 01's "Slips we've seen proposed", each with the records that it would give, and the books beside K1 to K12 that they
--- need. Records stand as in Known.antt. Words in quotation marks are document 01's.
+-- Slips, which are wrong readings of the format (docs/FORMAT.md, section 7), each with the records that it would give,
+-- and the books beside K1 to K12 that they need. Records stand as in Known.antt. Words in quotation marks are rules of
+-- docs/FORMAT.md in brief.
 -- Assumes nothing.
 use Rattle.std.specs.Prelude.{ℕ, true, false, List, [], ◌∷◌, ◌≡◌, pos, length}
 use Rattle.record.specs.declared.Record.{Record}
@@ -20,7 +21,8 @@ N5 = 5
 abbrev pub Foo : ℕ
 Foo = 9
 
--- K3's 64 bits are those of the UInt as well. N2 = N1 ÷ 2 shows the cast, -9223372036854775808 ÷ 2: "UInt and Hex cast to i64".
+-- K3's 64 bits are those of the UInt as well. N2 = N1 ÷ 2 shows the cast, -9223372036854775808 ÷ 2: "UInt and Hex cast
+-- to i64".
 abbrev pub cast_seen : Known
 cast_seen =
     record {
@@ -67,8 +69,8 @@ unknown_head =
       says = newtype_over N1 poison ∷ one_message 4 Foo 110 2 ∷ [];
     }
 
--- Outer<T> = array of T, and Outer of T, T being undeclared. The argument stands outside the target: it is no parameter there, and "an argument
--- as a whole [takes the span] of the parameter it replaces".
+-- Outer<T> = array of T, and Outer of T, T being undeclared. The argument stands outside the target: it is no parameter
+-- there, and "an argument as a whole [takes the span] of the parameter it replaces".
 abbrev pub argument_outside : Known
 argument_outside =
     record {
@@ -94,7 +96,8 @@ argument_outside =
       says = newtype_over N2 (array_of poison) ∷ one_message 1 T 100 1 ∷ [];
     }
 
--- a Bool and a u8 in a delta message: "fields not yet delta and resolved to primitive 1-12 or sub-byte become delta", and Bool is 0
+-- a Bool and a u8 in a delta message: "fields not yet delta and resolved to primitive 1-12 or sub-byte become delta",
+-- and Bool is 0
 abbrev pub delta_and_bool : Known
 delta_and_bool =
     record {
@@ -121,7 +124,8 @@ delta_and_bool =
       says = no_delta N2 default ∷ delta_over N3 varint ∷ [];
     }
 
--- a delta message, and behind it a union, which can have no annotation of its own, each with a field of u16: the message's becomes delta
+-- a delta message, and behind it a union, which can have no annotation of its own, each with a field of u16: the
+-- message's becomes delta
 abbrev pub delta_and_union : Known
 delta_and_union =
     record {
@@ -168,8 +172,8 @@ pub record Slip : Type 0 where
   pub diagnostics : List Record
   pub says : Claim
 
--- What is claimed of each: in slices of the full limits, whatever these hold, the book is not lowered to that; what the slip's records say,
--- the right ones do not.
+-- What is claimed of each: in slices of the full limits, whatever these hold, the book is not lowered to that; what the
+-- slip's records say, the right ones do not.
 pub record NotSo (s : Slip) : Type 0 where
   pub not_lowered_so :
       (results diagnostics : List ℕ) →
@@ -181,7 +185,7 @@ pub record NotSo (s : Slip) : Type 0 where
   pub says : s.says s.results s.diagnostics ≡ true
   pub not_said : s.says s.of.results s.of.diagnostics ≡ false
 
--- "evaluating K6 to 9"
+-- K6 evaluated to 9
 abbrev pub square_stored : Slip
 square_stored =
     record {
@@ -197,7 +201,7 @@ square_stored =
       says = stored N2 (pos 9);
     }
 
--- "substituting T in K10": an array of u8, and no message
+-- T substituted in K10: an array of u8, and no message
 abbrev pub inner_substituted : Slip
 inner_substituted =
     record {
@@ -212,7 +216,7 @@ inner_substituted =
       says = newtype_over N3 (array_of u8);
     }
 
--- "making a stub for an unknown generic head": the stub is the type; the newtype has number 0, so the stub gets 1
+-- a stub for an unknown generic head: the stub is the type; the newtype has number 0, so the stub gets 1
 abbrev pub head_stubbed : Slip
 head_stubbed =
     record {
@@ -242,7 +246,7 @@ head_stubbed_then_looked_at =
       says = one_message 3 Foo 110 2;
     }
 
--- "applying a message's delta to Bool"
+-- a message's delta on Bool
 abbrev pub delta_on_bool : Slip
 delta_on_bool =
     record {
@@ -261,7 +265,7 @@ delta_on_bool =
       says = is_delta N2;
     }
 
--- "applying a message's delta [..] to a union's fields"
+-- a message's delta on a union's fields
 abbrev pub delta_on_union : Slip
 delta_on_union =
     record {
@@ -282,7 +286,7 @@ delta_on_union =
       says = is_delta N5;
     }
 
--- "dividing toward minus infinity": K5 to -4
+-- division toward minus infinity: K5 to -4
 abbrev pub divided_down : Slip
 divided_down =
     record {

@@ -15,7 +15,7 @@ pub fn known_answers()
     ensures { KnownAnswers }
 {}
 
-/// And reading accepts them.
+/// Reading accepts the twelve books.
 #[tactic(auto, using(crate::proofs::Reading::known_are_read))]
 pub fn known_are_read()
     ensures { KnownAreRead }
@@ -27,7 +27,7 @@ pub fn answers_beside()
     ensures { AnswersBeside }
 {}
 
-/// It is not what some slips would give.
+/// What lowering gives for some books is not what some slips would give.
 #[tactic(auto, using(crate::proofs::Slips::no_slip))]
 pub fn no_slip()
     ensures { NoSlip }
@@ -51,19 +51,19 @@ pub fn storing_nothing_fails()
     ensures { StoringNothingFails }
 {}
 
-/// Nor does one that settles the first constant alone.
+/// A lowering that settles the first constant alone does not store what it should.
 #[tactic(auto, using(crate::proofs::Demand3::settling_the_first_fails))]
 pub fn settling_the_first_fails()
     ensures { SettlingTheFirstFails }
 {}
 
-/// Nor one that evaluates a name that is used twice.
+/// A lowering that evaluates a name that is used twice does not store what it should.
 #[tactic(auto, using(crate::proofs::Demand3::storing_squares_fails))]
 pub fn storing_squares_fails()
     ensures { StoringSquaresFails }
 {}
 
-/// Nor do they keep what a book with more constants keeps.
+/// Those three do not keep the values of constants where a book has more of them.
 #[tactic(auto, using(crate::proofs::Demand3::wrong_ones_fail_kept))]
 pub fn wrong_ones_fail_kept()
     ensures { WrongOnesFailKept }

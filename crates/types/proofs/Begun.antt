@@ -1,9 +1,9 @@
 -- What registering leaves stands for the names that a lowering begins with.
 -- Assumes nothing.
 use Rattle.std.proofs.Common.{◌≡◌, ℕ, zero, suc, ◌+◌, ◌-◌, ◌≤◌, ◌<◌, Bool, true, false, not, ◌&&◌, ◌||◌, List, [], ◌∷◌}
-use Rattle.std.proofs.Common.{◌++◌, length, map, take, replicate, get_or, nat_lt, refl, sym, ap, ◌∙◌, arith, subst}
-use Rattle.std.proofs.Common.{length-append, Some, None, Option, eqb, leb, true≢false}
-use Rattle.std.specs.Prelude.{if◌then◌else◌}
+use Rattle.std.proofs.Common.{◌++◌, length, map, replicate, get_or, nat_lt, refl, sym, ap, ◌∙◌, arith, subst}
+use Rattle.std.proofs.Common.{length-append, None, Option, eqb, leb, true≢false}
+use Rattle.std.specs.Prelude.{if◌then◌else◌, slice_get}
 use Rattle.std.proofs.lemmas.Bool.Decides.{nat_tests}
 use Rattle.std.proofs.lemmas.List.{map-append}
 use lib.ListN.{length-map, length-replicate}
@@ -12,20 +12,23 @@ use mathlib.Core.List.{Memᴰ}
 use mathlib.Core.Option.{none}
 use Rattle.record.specs.declared.Record.{Record}
 use Rattle.record.specs.declared.type_id.TypeId.{TypeId}
+use Rattle.record.proofs.Pushes.{blank-written}
 use Rattle.book.specs.Lists.{All, any, keep, up_to, at, find, numbered_from}
 use Rattle.book.specs.Faults.{record_of, is_kind, is_declaration}
 use Rattle.book.specs.Outline.{Book, ◌!◌, numbers_of}
 use Rattle.book.specs.Accepted.{IsRead}
 use Rattle.book.proofs.Listed.{any-map, any_listed}
-use Rattle.types.specs.Resolved.{entry, own_number, alias_of}
+use Rattle.book.proofs.Lists.{keep-length}
+use Rattle.types.specs.Lowering.{start}
+use Rattle.types.specs.Resolved.{Names, entry, own_number, alias_of}
 use Rattle.types.specs.Numbers.{Generic, generic_at, type_declarations, generic_aliases, generics}
 use Rattle.types.specs.Numbers.{register_declarations}
 use Rattle.types.specs.Resolve.{is_declared, is_ambiguous}
 use Rattle.types.specs.Below.{is_entered, names_below}
-use Rattle.types.specs.declared.names.Pair.{Pair}
-use Rattle.types.specs.Tables.{Tables, type_id, alias_in, is_marked, generic_in, no_generic}
+use Rattle.types.specs.Tables.{Tables, alias_in, is_marked, generic_in}
 use Rattle.types.specs.Registry.{nothing_known, types_numbered, registered, with_types}
-use Rattle.types.specs.Stands.{option_of, generic_of, pair_of, below_types, IsAlias, Knows}
+use Rattle.types.specs.Begun as begins
+use Rattle.types.specs.Stands.{option_of, generic_of, pair_of, is_unmet, below_types, IsAlias, Lent, Knows, Stands}
 use Rattle.types.proofs.Distinct.{Distinct, few_distinct, entered, entered_first, numbered_low, numbered_at}
 use Rattle.types.proofs.Parametered.{is_generic}
 use Rattle.types.proofs.Declared.{keep_keep, distinct_behind, distinct_names, types_apart, generic_kind, shared_type}
@@ -69,18 +72,12 @@ entered_below n rs h m e = go (none_over n rs m (none_of_them n rs h))
     go q = let z : leb n (record_of rs m).a ≡ false = ap (λ (b : Bool). b && leb n (record_of rs m).a) (sym e)
         ∙ q in grind (arith, nat_tests)
 
--- an element of what is taken
-taken : {A B : Type 0} (f : A → B) (n i : ℕ) (l : List A) (d : A) → n ≤ length l
-    → option_of f (if nat_lt i n then Some (get_or l i d) else None) ≡ at (map f (take n l)) i
+-- an element of a list, by either way of asking for it
+got : {A B : Type 0} (f : A → B) (l : List A) (i : ℕ) → option_of f (slice_get l i) ≡ at (map f l) i
 unfolding at
-taken f zero i l d h = let e : nat_lt i 0 ≡ false = grind (arith, nat_tests)
-    in ap (λ (b : Bool). option_of f (if b then Some (get_or l i d) else None)) e
-taken f (suc n) i [] d h = absurd (omega arith)
-taken f (suc n) zero (x ∷ l) d h = let e : nat_lt 0 (suc n) ≡ true = grind (arith, nat_tests)
-    in ap (λ (b : Bool). option_of f (if b then Some x else None)) e
-taken f (suc n) (suc i) (x ∷ l) d h =
-    let e : nat_lt (suc i) (suc n) ≡ nat_lt i n = grind (arith, nat_tests) in
-    ap (λ (b : Bool). option_of f (if b then Some (get_or l i d) else None)) e ∙ taken f n i l d (omega arith)
+got f [] i = refl
+got f (x ∷ l) zero = refl
+got f (x ∷ l) (suc i) = got f l i
 
 same_everywhere : {A : Type 0} (n i : ℕ) (a : A) → get_or (replicate n a) i a ≡ a
 same_everywhere zero i a = refl
@@ -164,12 +161,7 @@ module _ (book : Book) (read : IsRead book) (N : ℕ) (low : names_below N book.
       generics_law book ns (names book (type_declarations book)) [] (types_numbered typed)
       (subst (λ (b : ℕ). Below book b) (sym bound_is) below)
       (record { numbers_long = named.numbers_long; next_is = named.next_is; numbers_are = named.numbers_are })
-      (record {
-        counted = counted;
-        listed = ap (λ (n : ℕ). map generic_of
-            (take n typed.generics)) counted;
-        generics_long = long;
-      })
+      (ap (λ (s : Tables). map generic_of s.generics) types_done.only)
       (subst (λ (l : List ℕ). Distinct (names book (type_declarations book) ++ names book l)) (sym aliases_among)
       (distinct book read))
       (subst (λ (l : List ℕ). length (names book (type_declarations book) ++ names book l) < 4294967295)
@@ -182,19 +174,11 @@ module _ (book : Book) (read : IsRead book) (N : ℕ) (low : names_below N book.
         length-map (type_declarations book) (λ n. (book ! n).a),
         length-map (generic_aliases book) (λ n. (book ! n).a),
       )))
-      (subst (λ (l : List ℕ). 0 + length l ≤ typed.generic_bound) (sym aliases_among)
-      (omega (arith, few_generics, ap (λ (s : Tables). s.generic_bound) types_done.only)))
+      (subst (λ (l : List ℕ). 0 + length l ≤ typed.bound) (sym aliases_among)
+      (omega (arith, few_generics, bound_is)))
     where
       bound_is : typed.bound ≡ N
       bound_is = ap (λ (s : Tables). s.bound) types_done.only
-
-      counted : typed.generic_count ≡ 0
-      counted = ap (λ (s : Tables). s.generic_count) types_done.only
-
-      long : length typed.generics ≡ typed.generic_bound
-      long =
-          ap (λ (s : Tables). length s.generics) types_done.only ∙ length-replicate N no_generic
-          ∙ sym (ap (λ (s : Tables). s.generic_bound) types_done.only)
 
       named : Named typed (names book (type_declarations book))
       named = subst (λ (l : List ℕ). Named typed (names book l)) types_are types_done.named
@@ -265,35 +249,14 @@ module _ (book : Book) (read : IsRead book) (N : ℕ) (low : names_below N book.
       gs : List Generic
       gs = map (generic_at book) (generic_aliases book)
 
-      listed : map generic_of (take done.generic_count done.generics) ≡ gs
+      listed : map generic_of done.generics ≡ gs
       listed = behind_types.listed ∙ ap (λ (l : List ℕ). map (generic_at book) l) aliases_among
 
-      few : done.generic_count ≤ done.generic_bound
-      few =
-          omega (
-            arith,
-            behind_types.counted,
-            ap (λ (l : List ℕ). length l) aliases_among,
-            few_generics,
-            ap (λ (s : Tables). s.generic_bound) behind_types.only,
-            ap (λ (s : Tables). s.generic_bound) types_done.only,
-          )
-
-      room : (i : ℕ) → nat_lt i done.generic_count && nat_lt i done.generic_bound ≡ nat_lt i done.generic_count
-      room i = let h : done.generic_count ≤ done.generic_bound = few in grind (arith, nat_tests)
-
-      found : (i : ℕ) → option_of generic_of (if nat_lt i done.generic_count && nat_lt i done.generic_bound
-          then Some (get_or done.generics i no_generic) else None) ≡ at gs i
-      found i =
-          ap (λ (b : Bool). option_of generic_of (if b then Some (get_or done.generics i no_generic) else None))
-          (room i)
-          ∙ taken generic_of done.generic_count i done.generics no_generic
-          (omega (arith, few, behind_types.generics_long))
-          ∙ ap (λ (l : List Generic). at l i) listed
+      found : (i : ℕ) → option_of generic_of (slice_get done.generics i) ≡ at gs i
+      found i = got generic_of done.generics i ∙ ap (λ (l : List Generic). at l i) listed
 
       by : (b : Bool) → nat_lt m done.types ≡ b
-          → option_of generic_of (if b then None else (if nat_lt (m - done.types) done.generic_count && nat_lt
-          (m - done.types) done.generic_bound then Some (get_or done.generics (m - done.types) no_generic) else None))
+          → option_of generic_of (if b then None else slice_get done.generics (m - done.types))
           ≡ entry m (numbered_from (length l) gs)
       by true e =
           let less : m < length l = let q : m < done.types = grind (arith, nat_tests) in omega (arith, types_many) in
@@ -304,9 +267,6 @@ module _ (book : Book) (read : IsRead book) (N : ℕ) (low : names_below N book.
           found (m - done.types) ∙ sym (numbered_at (length l) (m - done.types) gs)
           ∙ ap (λ (i : ℕ). entry i (numbered_from (length l) gs)) more
 
-  abbrev no_pair : Pair
-  no_pair = record { space = 0; name = 0; number = type_id 0 }
-
   -- the tables stand for the numbers of the book's declarations, no result being there
   pub begun : Knows book done (register_declarations book) []
   unfolding register_declarations own_number alias_of entry find
@@ -315,9 +275,6 @@ module _ (book : Book) (read : IsRead book) (N : ℕ) (low : names_below N book.
         numbers_long = named.numbers_long;
         aliases_long = ap (λ (s : Tables). length s.aliases) behind_types.only
             ∙ ap (λ (s : Tables). length s.aliases) types_done.only ∙ length-replicate N None ∙ sym bound_is;
-        pairs_long = ap (λ (s : Tables). length s.pairs) behind_types.only
-            ∙ ap (λ (s : Tables). length s.pairs) types_done.only ∙ length-replicate N no_pair ∙ sym bounded;
-        pairs_many = omega (arith, bounded, held);
         next_is = named.next_is ∙ ap (λ (l : List ℕ). length l) (sym names_are);
         next_few = omega (
           arith,
@@ -337,13 +294,16 @@ module _ (book : Book) (read : IsRead book) (N : ℕ) (low : names_below N book.
             (sym names_are);
         ambiguous_are = marked;
         generics_are = generic;
-        pairs_few = omega (
+        pairs_room = omega (
           arith,
-          ap (λ (s : Tables). s.pair_count) behind_types.only,
-          ap (λ (s : Tables). s.pair_count) types_done.only,
+          ap (λ (s : Tables). length s.pairs) behind_types.only,
+          ap (λ (s : Tables). length s.pairs) types_done.only,
+          keep-length (is_unmet []) rs,
+          bound_is,
+          held,
         );
-        pairs_are = ap (λ (s : Tables). map pair_of (take s.pair_count s.pairs)) behind_types.only
-            ∙ ap (λ (s : Tables). map pair_of (take s.pair_count s.pairs)) types_done.only;
+        pairs_are = ap (λ (s : Tables). map pair_of s.pairs) behind_types.only
+            ∙ ap (λ (s : Tables). map pair_of s.pairs) types_done.only;
         aliases_are = λ n. subst (λ (o : Option _). IsAlias [] o none)
             (sym (ap (λ (s : Tables). alias_in s n) behind_types.only
             ∙ ap (λ (s : Tables). alias_in s n) types_done.only ∙ nothing_there (nat_lt n N) N n)) tt;
@@ -352,7 +312,17 @@ module _ (book : Book) (read : IsRead book) (N : ℕ) (low : names_below N book.
         alias_names_below = λ m e. subst (λ (b : ℕ). (book ! m).a < b) (sym bound_is)
             (below m (alias_declares (book ! m) e).0);
       }
-    where
-      bounded : done.pair_bound ≡ N
-      bounded = ap (λ (s : Tables). s.pair_bound) behind_types.only
-          ∙ ap (λ (s : Tables). s.pair_bound) types_done.only
+
+-- nothing is written, and nothing is being lowered: so a lowering begins
+pub stands_first :
+    (lent : Lent) (book : Book) (t : Tables) (k : Names) → Knows book t k [] →
+    Stands lent book (begins.begun book t lent.results lent.diagnostics) k start
+stands_first lent book t k h = record {
+  book_is = refl;
+  place_is = refl;
+  results_are = blank-written lent.results 2048;
+  diagnostics_are = blank-written lent.diagnostics 256;
+  results_fit = omega arith;
+  diagnostics_fit = omega arith;
+  knows = h;
+}

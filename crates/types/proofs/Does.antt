@@ -1,4 +1,5 @@
--- What a lowering does, said of its tree: what holds of each event, and of its answer and the number of results behind it.
+-- What a lowering does, said of its tree: what holds of each event, and of its answer and the number of results behind
+-- it.
 -- Assumes nothing.
 use Prim.Native.Nat.{ℕ, suc, ◌+◌, ◌≤◌}
 use mathlib.Core.List.{List, [], ◌∷◌, ◌++◌}

@@ -12,11 +12,11 @@ use Rattle.book.specs.Outline.{Book}
 use Rattle.types.specs.declared.names.Place.{Place}
 use Rattle.types.specs.Lowering.{State, with_result, with_diagnostic, full, finished, stopped, run}
 use Rattle.types.specs.Resolved.{ResolvedType, Names, alias_of}
-use Rattle.types.specs.Step.{◌>>◌, give, emit, tell}
+use Rattle.types.specs.Step.{emit, tell}
 use Rattle.types.specs.Tables.{Tables, alias_in}
-use Rattle.types.specs.Stands.{Lent, limits, IsAlias, Knows, Stands, Ends, Done, Does, Always, SameNumber}
+use Rattle.types.specs.Stands.{Lent, limits, IsAlias, Knows, Stands, Ends, Done, Does, SameNumber}
 use Rattle.types.specs.Code as code
-use Rattle.types.proofs.Refining.{left, grown_more, grown_same, does_map, does_next, does_give}
+use Rattle.types.proofs.Refining.{left, grown_more, grown_same, does_map}
 use Rattle.types.proofs.Placed.{stands_on}
 
 alias_on : (rs xs : List Record) (p : Option Place) (t : Maybe ResolvedType) → IsAlias rs p t → IsAlias (rs ++ xs) p t
@@ -32,8 +32,6 @@ knows_on book c k rs xs h =
     record {
       numbers_long = h.numbers_long;
       aliases_long = h.aliases_long;
-      pairs_long = h.pairs_long;
-      pairs_many = h.pairs_many;
       next_is = h.next_is;
       next_few = omega (arith, h.next_few, length-append rs xs);
       types_few = h.types_few;
@@ -41,7 +39,7 @@ knows_on book c k rs xs h =
       declared_are = h.declared_are;
       ambiguous_are = h.ambiguous_are;
       generics_are = h.generics_are;
-      pairs_few = h.pairs_few;
+      pairs_room = h.pairs_room;
       pairs_are = h.pairs_are;
       aliases_are = λ n. alias_on rs xs (alias_in c n) (alias_of k n) (h.aliases_are n);
       uses_below = h.uses_below;
@@ -196,10 +194,3 @@ module _ (lent : Lent) (book : Book) (c : code.State) (k : Names) (s : State) (h
   -- under one number here and there
   pub does_emit_same : Does lent book SameNumber (code.emit r c) (emit r) k s
   does_emit_same = does_map lent book _ SameNumber (code.emit r c) (emit r) k s (λ n m k' rs v. v.0 ∙ sym v.1) does_emit
-
-  -- and nothing is made of it
-  pub does_put : {A B : Type 0} (a : A) (b : B) → Does lent book Always
-      (code.next (code.emit r c) (λ n t. code.done a t)) (emit r >> give b) k s
-  does_put a b =
-      does_next lent book _ Always (code.emit r c) (emit r) (λ n t. code.done a t) (give b) k s does_emit
-      (λ n c' m k' s' st grown v. does_give lent book Always a b c' k' s' st tt)

@@ -1,6 +1,7 @@
 -- What names, pairs and heads are found to be.
 -- Assumes nothing.
-use Rattle.std.proofs.Common.{◌≡◌, ℕ, Bool, true, false, ◌&&◌, cond, List, [], ◌∷◌, take, nat_lt, refl, sym, ap, ◌∙◌}
+use Rattle.std.proofs.Math.Bool.{and_comm}
+use Rattle.std.proofs.Common.{◌≡◌, ℕ, Bool, true, false, ◌&&◌, cond, List, [], ◌∷◌, nat_lt, refl, sym, ap, ◌∙◌}
 use Rattle.std.proofs.Common.{subst, Some, None, Option}
 use Rattle.std.specs.Prelude.{slice_get, option_map, find as std_find, ◌==◌, eqb, if◌then◌else◌}
 use Rattle.std.specs.Prelude as prelude
@@ -16,6 +17,7 @@ use Rattle.types.specs.declared.names.Pair.{Pair}
 use Rattle.types.specs.declared.names.Generic as generics
 use Rattle.types.specs.declared.lowering.Found as founds
 use Rattle.types.specs.declared.lowering.Found.TheVariants.{Alias, Known, Stub, Unresolved}
+use Rattle.types.specs.declared.diagnostic.Message.TheVariants as messages
 use Rattle.types.specs.declared.lowering.Head as heads
 use Rattle.types.specs.declared.lowering.Head.TheVariants as head
 use Rattle.types.specs.Lowering.{State}
@@ -69,12 +71,9 @@ module _ (lent : Lent) (book : Book) (c : code.State) (k : Names) (s : State) (h
   look_up n = looked n (number_in c.names n) ∙ ap (λ (o : Maybe ℕ). or_else o (as_number (alias_of k n)))
       (h.knows.numbers_are n)
 
-  abbrev is_pair : ℕ → ℕ → (ℕ × ℕ) × ℕ → Bool
-  is_pair space name x = eqb x.0.0 space && eqb x.0.1 name
-
   pub pairs_same : (space name : ℕ) → own (pair_in c.names space name) ≡ pair_number k space name
   unfolding find pair_number
-  pairs_same space name = among (take c.names.pair_count c.names.pairs)
+  pairs_same space name = among c.names.pairs
       ∙ ap (λ (l : List ((ℕ × ℕ) × ℕ)). map (λ x. x.1) (find
       (λ x. eqb x.0.0 space && eqb x.0.1 name) l)) h.knows.pairs_are
     where
@@ -85,17 +84,24 @@ module _ (lent : Lent) (book : Book) (c : code.State) (k : Names) (s : State) (h
       either true p o q e = refl
       either false p o q e = e
 
-      among : (l : List Pair) → own (option_map (λ p. p.number) (std_find (λ p. p.space == space && p.name == name) l))
+      among : (l : List Pair) → own (option_map (λ p. p.number) (std_find (λ p. p.name == name && p.space == space) l))
           ≡ map (λ x. x.1) (find (λ x. eqb x.0.0 space && eqb x.0.1 name) (prelude.map pair_of l))
       among [] = refl
-      among (p ∷ l) = either (p.space == space && p.name == name) p _ _ (among l)
+      among (p ∷ l) =
+          either (p.name == name && p.space == space) p _ _ (among l)
+          ∙ ap (λ (b : Bool). map (λ (x : (ℕ × ℕ) × ℕ). x.1) (elim b [
+            | true ↦ some (pair_of p)
+            | false ↦ find
+                (λ x. eqb x.0.0 space && eqb x.0.1 name) (prelude.map pair_of l)
+          ])) (and_comm (p.name == name) (p.space == space))
 
 -- what a name is found to be, here and there
 pub data SameFound (rs : List Record) : founds.Found → Found → Type 0 where
   an_alias : (p : Place) (t : ResolvedType) → StandsAt rs p.first p.root t → SameFound rs (Alias p) (type t)
   a_number : (n : TypeId) → SameFound rs (Known n) (type (named n.0))
   a_stub : SameFound rs Stub stub
-  a_message : (m : ℕ) → SameFound rs (Unresolved m) (unresolved m)
+  an_ambiguous : SameFound rs (Unresolved messages.Ambiguous) (unresolved 0)
+  an_unknown : SameFound rs (Unresolved messages.Unresolved) (unresolved 1)
 
 -- a type number as what is found
 abbrev pub numbered : Maybe ℕ → Maybe Found
@@ -118,15 +124,15 @@ module _ (lent : Lent) (book : Book) (c : code.State) (k : Names) (s : State) (h
       (found_by none (some m.0) b amb wild)
   unfolding first_of
   by_bools m true amb wild = a_number m
-  by_bools m false true wild = a_message 0
+  by_bools m false true wild = an_ambiguous
   by_bools m false false wild = a_number m
 
   with_none : (amb wild : Bool) → SameFound s.results (code.unless_ambiguous amb None wild)
       (found_by none none false amb wild)
   unfolding first_of
-  with_none true wild = a_message 0
+  with_none true wild = an_ambiguous
   with_none false true = a_stub
-  with_none false false = a_message 1
+  with_none false false = an_unknown
 
   by_own : (n : ℕ) (o : Option TypeId) → SameFound s.results (code.by_own o n c)
       (found_by none (own o) (below_types c.names.types (own o)) (is_marked c.names n) c.book.wildcards)

@@ -7,7 +7,7 @@ pub mod Emits
 pub mod Writes
 pub mod Copied
 pub mod Finding
-pub mod PairsMet
+pub mod PairsUnmet
 pub mod Stubbing
 pub mod TypeExprs
 pub mod Resolves
@@ -18,7 +18,8 @@ pub mod Registered
 pub mod Declared
 pub mod Begun
 pub mod PlainAliases
-pub mod Slices
+pub mod Agreeing
+pub mod Rooting
 pub mod Events
 pub mod Adds
 pub mod Does

@@ -8,7 +8,6 @@ use Rattle.record.specs.declared.Record.{Record}
 use Rattle.types.specs.Resolved.{ResolvedType, primitive, sub_byte, semantic, named, one_child, two_children}
 use Rattle.types.specs.Resolved.{inline_bits}
 use Rattle.types.specs.Records.{below, type_records, StandsAt}
-use Rattle.types.specs.Stands.{Grown}
 use Rattle.types.proofs.TypeRecords.{type_has_records, root_record}
 
 -- the records before the root
@@ -90,11 +89,6 @@ stands_on rs xs first root t h = record {
       ∙ take-append-le (suc (below t)) (drop first rs) xs (omega (arith, length-drop first rs, h.root_is, h.inside))
       ∙ h.there;
 }
-
-pub stands_grown : (rs rs' : List Record) (first root : ℕ) (t : ResolvedType) → Grown rs rs' → StandsAt rs first root t
-    → StandsAt rs' first root t
-stands_grown rs rs' first root t g h = subst (λ (x : List Record). StandsAt x first root t) (sym g.is)
-    (stands_on rs g.more first root t h)
 
 pub get_there : (xs : List Record) (y : Record) (zs : List Record) (n : ℕ) → length xs ≡ n
     → slice_get (xs ++ y ∷ zs) n ≡ Some y

@@ -1,6 +1,5 @@
 -- Plain aliases: what the code does with them is what the definitions say.
 -- Assumes nothing.
-use Rattle.std.proofs.Common.{◌≤◌}
 use Rattle.std.proofs.Common.{◌≡◌, ℕ, ◌<◌, Bool, true, false, not, ◌&&◌, cond, List, [], ◌∷◌, ◌++◌, length, nat_lt}
 use Rattle.std.proofs.Common.{refl, sym, ap, ◌∙◌, arith, subst, append_assoc, length-set, get_or-set_same}
 use Rattle.std.proofs.Common.{get_or-set_other, Some, None, Option, Ok, Err, Result, ◌⊎◌, inl, inr, eqb, eq-eqb}
@@ -14,25 +13,23 @@ use Rattle.record.specs.declared.kind.Kind.TheVariants as kinds
 use Rattle.record.specs.declared.kind.UnknownKind.{UnknownKind}
 use Rattle.record.specs.declared.Record.{Record}
 use Rattle.record.specs.Kind.{code_of, kind_from}
-use Rattle.record.specs.Written.{Written, blank}
+use Rattle.record.specs.Written.{Written}
 use Rattle.record.proofs.Codes.{code_of_kind, by_kind, unknown_eqb}
-use Rattle.book.specs.Lists.{find, keep, up_to}
-use Rattle.book.specs.Accepted.{IsRead}
+use Rattle.book.specs.Lists.{keep, up_to}
 use Rattle.book.specs.Faults.{is_kind, is_declaration}
 use Rattle.book.specs.Outline.{Book, ◌!◌, numbers_of}
 use Rattle.book.proofs.Members.{mem_any}
 use Rattle.book.proofs.Listed.{any-map}
 use Rattle.types.specs.declared.names.Place.{Place}
-use Rattle.types.specs.Lowering.{State, moved, start}
-use Rattle.types.specs.Below.{names_below}
+use Rattle.types.specs.Lowering.{State, moved}
 use Rattle.types.specs.Resolved.{ResolvedType, Names, entry, own_number, alias_of, with_alias}
 use Rattle.types.specs.Step.{Resolved, ◌>>◌, emit, change, for_each}
-use Rattle.types.specs.Numbers.{plain_aliases, register_declarations}
+use Rattle.types.specs.Numbers.{plain_aliases}
 use Rattle.types.specs.Records.{type_records, StandsAt}
 use Rattle.types.specs.Resolve.{resolve_type}
 use Rattle.types.specs.Alias.{lower_alias}
 use Rattle.types.specs.Tables.{Tables, alias_in, aliased}
-use Rattle.types.specs.Registry.{is_plain, parameter_behind, registered, nothing_known}
+use Rattle.types.specs.Registry.{is_plain, parameter_behind}
 use Rattle.types.specs.Stands.{Lent, Knows, Stands, Does, Always, Roots, IsAlias}
 use Rattle.types.specs.Code as code
 use Rattle.types.specs.Walk as walk
@@ -48,9 +45,7 @@ use Rattle.types.proofs.Distinct.{Distinct}
 use Rattle.types.proofs.Parametered.{is_generic, no_parameter, a_parameter_is}
 use Rattle.types.proofs.Declares.{alias_declares}
 use Rattle.types.proofs.Registered.{names}
-use Rattle.types.proofs.Declared.{keep_keep, plain_distinct}
-use Rattle.types.proofs.Begun.{begun}
-use Rattle.types.proofs.Slices.{stands_first}
+use Rattle.types.proofs.Declared.{keep_keep}
 
 -- one alias more is known
 module _ (book : Book) (c : Tables) (k : Names) (rs : List Record) (h : Knows book c k rs) (n : ℕ) (p : Place)
@@ -89,8 +84,6 @@ module _ (book : Book) (c : Tables) (k : Names) (rs : List Record) (h : Knows bo
       record {
         numbers_long = h.numbers_long;
         aliases_long = rw (is_inside, length-set c.aliases n (Some p)) h.aliases_long;
-        pairs_long = h.pairs_long;
-        pairs_many = h.pairs_many;
         next_is = h.next_is;
         next_few = h.next_few;
         types_few = h.types_few;
@@ -98,7 +91,7 @@ module _ (book : Book) (c : Tables) (k : Names) (rs : List Record) (h : Knows bo
         declared_are = h.declared_are;
         ambiguous_are = h.ambiguous_are;
         generics_are = h.generics_are;
-        pairs_few = h.pairs_few;
+        pairs_room = h.pairs_room;
         pairs_are = h.pairs_are;
         aliases_are = λ m. alias m (cases_eq m n);
         uses_below = h.uses_below;
@@ -305,22 +298,3 @@ module _ (lent : Lent) (book : Book) where
           let told : plain.is_plain_alias c.book n ≡ false = ap (λ (b : Book). plain.is_plain_alias b n) h.book_is
           ∙ plain_test book n ∙ e in
           ap (λ (b : Bool). plain.if_alias b n c) told
-
--- and so from the start, where the declarations of a book that is read are registered in tables for names below N
-pub does_first_aliases :
-    (lent : Lent) (book : Book) → IsRead book → (N : ℕ) → names_below N book.records ≡ true → length book.records ≤ N →
-    Does {A = Unit {0}} {B = Unit {0}} lent book Always
-    (plain.lower_aliases (numbers_of is_declaration book)
-    (record {
-      book = book;
-      names = registered book (numbers_of is_declaration book) (nothing_known N);
-      results = blank lent.results 2048;
-      diagnostics = blank lent.diagnostics 256;
-      place = 0;
-    }))
-    (for_each (lower_alias book) (plain_aliases book)) (register_declarations book) start
-unfolding register_declarations alias_of entry find
-does_first_aliases lent book read N low held =
-    let t : Tables = registered book (numbers_of is_declaration book) (nothing_known N) in
-    let k : Names = register_declarations book in
-    does_aliases lent book _ k start (stands_first lent book t k (begun book read N low held)) (plain_distinct book read) (λ n m. refl)

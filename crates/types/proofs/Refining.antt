@@ -1,6 +1,7 @@
--- Steps of the code that do what steps of the definitions say. A function of the code has one lemma: `Refines` of what it does and of the
--- definition, or `Does` where it begins somewhere. Such a lemma is put together from those of its parts by `does_then` (`>>=`), `does_next`
--- (`>>`), `does_at`, `does_cond`, `does_each` (`for_each`) and the like, and the parts that only write or tell by proofs/Emits.antt.
+-- Steps of the code that do what steps of the definitions say. A function of the code has one lemma: `Refines` of what
+-- it does and of the definition, or `Does` where it begins somewhere. Such a lemma is put together from those of its
+-- parts by `does_then` (`>>=`), `does_next` (`>>`), `does_at`, `does_cond`, `does_each` (`for_each`) and the like, and
+-- the parts that only write or tell by proofs/Emits.antt.
 -- Assumes nothing.
 use Rattle.std.proofs.Common.{◌≡◌, ℕ, ◌≤◌, Bool, true, false, cond, nat_lt, List, [], ◌∷◌, ◌++◌, refl, sym, ap, ◌∙◌}
 use Rattle.std.proofs.Common.{arith, subst, append_assoc, append-nil, Result, Ok, Err}
@@ -9,13 +10,12 @@ use Rattle.record.specs.declared.Record.{Record}
 use Rattle.record.specs.declared.refusal.Refusal.{Refusal}
 use Rattle.book.specs.Lists.{keep}
 use Rattle.book.specs.Outline.{Book}
-use Rattle.types.specs.Lowering.{resolving, and_then, State, moved, Stop, Out, finished, stopped, run}
+use Rattle.types.specs.Lowering.{resolving, and_then, State, moved, Out, finished, stopped, run}
 use Rattle.types.specs.Events.{go_on}
 use Rattle.types.specs.Resolved.{Names}
 use Rattle.types.specs.Step.{Step, ◌>>=◌, ◌>>◌, give, at, change, for_each}
 use Rattle.types.specs.Tables.{Tables}
-use Rattle.types.specs.Stands.{Lent, limits, Knows, Stands, Left, cause_of, Ends, Holds, Grown, Done, Does, Refines}
-use Rattle.types.specs.Stands.{Always}
+use Rattle.types.specs.Stands.{Lent, limits, Knows, Stands, Left, Ends, Holds, Grown, Done, Does}
 use Rattle.types.specs.Code as code
 use Rattle.types.specs.Each.{each}
 use Rattle.types.proofs.Adds.{runs_in_turn}
@@ -43,20 +43,6 @@ ends_map lent V W f (Ok n) c (finished a s) h = f n c a s h
 ends_map lent V W f (Err e) c (stopped x p) h = h
 ends_map lent V W f (Ok n) c (stopped x p) h = absurd h
 ends_map lent V W f (Err e) c (finished a s) h = absurd h
-
--- an answer is finished with, and a refusal is where the lowering stopped
-pub ends_ok :
-    {A B : Type 0} (lent : Lent) (V : A → code.State → B → State → Type 0) (n : A) (c : code.State) (o : Out B) →
-    Ends lent V (Ok n) c o → (a : B) × (s : State) × (o ≡ finished a s) × V n c a s
-ends_ok lent V n c (finished a s) h = (a, s, refl, h)
-ends_ok lent V n c (stopped x p) h = absurd h
-
-pub ends_err :
-    {A B : Type 0} (lent : Lent) (V : A → code.State → B → State → Type 0) (e : Refusal) (c : code.State) (o : Out B) →
-    Ends lent V (Err e) c o →
-    (x : Stop) × (p : ℕ) × (o ≡ stopped x p) × (e ≡ record { cause = cause_of x; place = p }) × Left lent c
-ends_err lent V e c (finished a s) h = absurd h
-ends_err lent V e c (stopped x p) h = (x, p, refl, h.0, h.1)
 
 pub grown_same : (rs : List Record) → Grown rs rs
 grown_same rs = record { more = []; is = sym (append-nil rs) }
@@ -215,30 +201,6 @@ module _ (lent : Lent) (book : Book) where
   does_cond V o m₁ m₂ k s true x y = x refl
   does_cond V o m₁ m₂ k s false x y = y refl
 
--- a step that does what a step says wherever it begins: one after it, in another place, and with less said of the answers
-module _ {A B : Type 0} (book : Book) (V : Holds A B) (f : code.State → code.Outcome A) (m : Step B) (h : Refines book V f m) where
-  pub refines_then :
-      {C D : Type 0} (W : Holds C D) (g : A → code.State → code.Outcome C) (l : B → Step D) →
-      ((lent : Lent) (n : A) (c : code.State) (a : B) (k : Names) (s : State) → Stands lent book c k s → V n a k s.results →
-      Does lent book W (g n c) (l a) k s) →
-      Refines book W (λ c. code.next (f c) g) (m >>= l)
-  refines_then W g l next lent c k s st =
-      does_then lent book V W (f c) m g l k s (h lent c k s st) (λ n c' a k' s' st' grown v. next lent n c' a k' s' st' v)
-
-  pub refines_next :
-      {C D : Type 0} (W : Holds C D) (g : A → code.State → code.Outcome C) (l : Step D) →
-      ((n : A) → Refines book W (g n) l) → Refines book W (λ c. code.next (f c) g) (m >> l)
-  refines_next W g l next = refines_then W g (λ a. l) (λ lent n c a k s st v. next n lent c k s st)
-
-  pub refines_at : (n : ℕ) → Refines book V (λ c. f (record c { place = n })) (at n >> m)
-  refines_at n lent c k s st =
-      does_at lent book V n (f (record c { place = n })) m k s
-      (h lent (record c { place = n }) k (moved n s) (stands_moved lent book n c k s st))
-
-  pub refines_map :
-      (W : Holds A B) → ((n : A) (a : B) (k : Names) (rs : List Record) → V n a k rs → W n a k rs) → Refines book W f m
-  refines_map W g lent c k s st = does_map lent book V W (f c) m k s g (h lent c k s st)
-
 -- I says what holds of the names and the results while some records are left. A record that does not pass does nothing.
 module _
     {A : Type 0} (a : A) (lent : Lent) (book : Book) (f : ℕ → code.State → code.Outcome A) (m : ℕ → Step (Unit {0})) (test : ℕ → Bool)
@@ -271,14 +233,3 @@ module _
             subst
             (λ (o : code.Outcome A). Does lent book Behind (code.next o (λ b t. each a f ns t)) (for_each m (keep test ns)) k s)
             (sym (none_of n e c k s h)) (later c k s h i)
-
--- a step for each of some records, where each step does what a step says wherever it begins
-pub refines_each :
-    {A : Type 0} (book : Book) (V : Holds A (Unit {0})) (a : A) (f : ℕ → code.State → code.Outcome A) (m : ℕ → Step (Unit {0})) →
-    ((n : ℕ) → Refines book V (f n) (m n)) → (ns : List ℕ) →
-    Refines {A = A} {B = Unit {0}} book Always (each a f ns) (for_each m ns)
-unfolding each for_each
-refines_each book V a f m one [] = λ lent c k s h. does_give lent book Always a (tt {0}) c k s h tt
-refines_each book V a f m one (n ∷ ns) =
-    refines_next book V (f n) (m n) (one n) Always (λ b t. each a f ns t) (for_each m ns)
-    (λ b. refines_each book V a f m one ns)

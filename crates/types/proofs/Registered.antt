@@ -1,12 +1,13 @@
 -- Registering the declarations of a book: the tables then stand for the names that the definitions begin with.
 -- Assumes nothing.
 use Rattle.std.proofs.Common.{◌≡◌, ℕ, suc, ◌+◌, ◌≤◌, ◌<◌, Bool, true, false, ◌&&◌, ◌||◌, cond, List, [], ◌∷◌, ◌++◌}
-use Rattle.std.proofs.Common.{length, map, take, nat_lt, refl, sym, ap, ◌∙◌, arith, subst, append_assoc, append-nil}
+use Rattle.std.proofs.Common.{length, map, nat_lt, refl, sym, ap, ◌∙◌, arith, subst, append_assoc, append-nil}
 use Rattle.std.proofs.Common.{length-append, length-set, get_or-set_same, get_or-set_other, Some, None, Option, Result}
 use Rattle.std.proofs.Common.{◌⊎◌, inl, inr, eqb}
 use Rattle.std.proofs.lemmas.Bool.{cases_eq}
 use Rattle.std.proofs.lemmas.Bool.Decides.{nat_tests}
-use Rattle.std.proofs.lemmas.List.{map-append, take_more_set}
+use Rattle.std.proofs.lemmas.List.{map-append}
+use lib.ListN.{length-map}
 use mathlib.Core.Bool.{or-true, or-false}
 use mathlib.Core.Option.{Option as Maybe, some}
 use Rattle.record.specs.declared.kind.Kind.{Kind}
@@ -107,7 +108,8 @@ module _ (book : Book) where
   abbrev pub Below : ℕ → Type 0
   Below bound = (n : ℕ) → is_declaration (book ! n) ≡ true → (book ! n).a < bound
 
-  -- messages, unions and newtypes among some declarations are numbered behind the names xs, and ambiguous names are marked
+  -- messages, unions and newtypes among some declarations are numbered behind the names xs, and ambiguous names are
+  -- marked
   pub record Types (c : Tables) (ns xs : List ℕ) (t : Tables) : Type 0 where
     pub named : Named t (xs ++ names (types_among ns))
     pub marks : (m : ℕ) → is_marked t m ≡ is_marked c m || any (is_mark m) ns
@@ -213,30 +215,20 @@ module _ (book : Book) where
   -- generic aliases among some declarations are numbered behind the names xs, and listed behind gs
   pub record Generics (c : Tables) (ns xs : List ℕ) (gs : List Generic) (t : Tables) : Type 0 where
     pub named : Named t (xs ++ names (generics_among ns))
-    pub counted : t.generic_count ≡ length gs + length (generics_among ns)
-    pub listed : map generic_of (take t.generic_count t.generics) ≡ gs ++ map (generic_at book) (generics_among ns)
-    pub generics_long : length t.generics ≡ t.generic_bound
-    pub only : t ≡ record c { next = t.next; numbers = t.numbers; generics = t.generics; generic_count = t.generic_count }
-
-  -- so many generic aliases are listed
-  pub record Listed (c : Tables) (gs : List Generic) : Type 0 where
-    pub counted : c.generic_count ≡ length gs
-    pub listed : map generic_of (take c.generic_count c.generics) ≡ gs
-    pub generics_long : length c.generics ≡ c.generic_bound
+    pub listed : map generic_of t.generics ≡ gs ++ map (generic_at book) (generics_among ns)
+    pub only : t ≡ record c { next = t.next; numbers = t.numbers; generics = t.generics }
 
   abbrev GenericsLater : List ℕ → Type 0
-  GenericsLater ns = (xs : List ℕ) (gs : List Generic) (c : Tables) → Below c.bound → Named c xs → Listed c gs
+  GenericsLater ns = (xs : List ℕ) (gs : List Generic) (c : Tables) → Below c.bound → Named c xs → map generic_of c.generics ≡ gs
       → Distinct (xs ++ names (generics_among ns))
-      → length (xs ++ names (generics_among ns)) < 4294967295 → length gs + length (generics_among ns) ≤ c.generic_bound
+      → length (xs ++ names (generics_among ns)) < 4294967295 → length gs + length (generics_among ns) ≤ c.bound
       → Generics c ns xs gs (with_aliases book ns c)
 
   pub generics_law : (ns : List ℕ) → GenericsLater ns
   unfolding with_aliases keep
   generics_law [] xs gs c below h l d few room = record {
     named = subst (Named c) (sym (append-nil xs)) h;
-    counted = omega (arith, l.counted);
-    listed = l.listed ∙ sym (append-nil gs);
-    generics_long = l.generics_long;
+    listed = l ∙ sym (append-nil gs);
     only = refl;
   }
   generics_law (n ∷ ns) xs gs c below h l d few room =
@@ -262,13 +254,11 @@ module _ (book : Book) where
           let ih : Generics c ns xs gs t =
           later xs gs c below h l (subst (λ (l : List ℕ). Distinct (xs ++ names l)) e d)
           (subst (λ (l : List ℕ). length (xs ++ names l) < 4294967295) e few)
-          (subst (λ (l : List ℕ). length gs + length l ≤ c.generic_bound) e room) in
+          (subst (λ (l : List ℕ). length gs + length l ≤ c.bound) e room) in
           subst (λ (s : Tables). Generics c (n ∷ ns) xs gs (with_aliases book ns s)) (sym is)
           (record {
             named = subst (λ (l : List ℕ). Named t (xs ++ names l)) (sym e) ih.named;
-            counted = ih.counted ∙ ap (λ (l : List ℕ). length gs + length l) (sym e);
             listed = ih.listed ∙ ap (λ (l : List ℕ). gs ++ map (generic_at book) l) (sym e);
-            generics_long = ih.generics_long;
             only = ih.only;
           })
 
@@ -285,29 +275,20 @@ module _ (book : Book) where
           (λ (l : List ℕ). Distinct (xs ++ names l)) e d in
           let few' : length (xs ++ x ∷ names (generics_among ns)) < 4294967295 = subst
           (λ (l : List ℕ). length (xs ++ names l) < 4294967295) e few in
-          let room' : length gs + suc (length (generics_among ns)) ≤ c.generic_bound = subst
-          (λ (l : List ℕ). length gs + length l ≤ c.generic_bound) e room in
+          let room' : length gs + suc (length (generics_among ns)) ≤ c.bound = subst
+          (λ (l : List ℕ). length gs + length l ≤ c.bound) e room in
           let assoc : (xs ++ x ∷ []) ++ names (generics_among ns)
           ≡ xs ++ x ∷ names (generics_among ns) = append_assoc xs (x ∷ []) (names (generics_among ns)) in
           let named : Named (stubbed c x) (xs ++ x ∷ []) =
           named_more c xs x h (below n dec) (distinct_before xs x (names (generics_among ns)) d')
           (omega (arith, length-append xs (x ∷ names (generics_among ns)))) in
-          let inside : nat_lt c.generic_count c.generic_bound
-          ≡ true = let low : c.generic_count < c.generic_bound = omega (arith, l.counted)
+          let many : length c.generics ≡ length gs = sym (length-map c.generics generic_of)
+          ∙ ap (λ (l : List Generic). length l) l in
+          let inside : nat_lt (length c.generics) c.bound
+          ≡ true = let low : length c.generics < c.bound = omega (arith, many)
           in grind (arith, nat_tests) in
-          let low : c.generic_count < length c.generics = omega (arith, l.counted, l.generics_long) in
-          let listed : Listed c' gs' =
-          record {
-            counted = rw inside (omega (arith, l.counted, length-append gs (generic_of g ∷ [])));
-            listed =
-                rw (
-                  inside,
-                  take_more_set c.generics c.generic_count g low,
-                  map-append generic_of (take c.generic_count c.generics) (g ∷ []),
-                )
-                (ap (λ (l : List Generic). l ++ generic_of g ∷ []) l.listed);
-            generics_long = rw (inside, length-set c.generics c.generic_count g) l.generics_long;
-          } in
+          let listed : map generic_of c'.generics ≡ gs' =
+          rw (inside, map-append generic_of c.generics (g ∷ [])) (ap (λ (l : List Generic). l ++ generic_of g ∷ []) l) in
           let ih : Generics c' ns (xs ++ x ∷ []) gs' t =
           later (xs ++ x ∷ []) gs' c' below
           (record { numbers_long = named.numbers_long; next_is = named.next_is; numbers_are = named.numbers_are }) listed
@@ -316,15 +297,10 @@ module _ (book : Book) where
           let one : generic_of g ≡ generic_at book n = sym entry_is in
           record {
             named = subst (Named t) (assoc ∙ ap (λ (l : List ℕ). xs ++ names l) (sym e)) ih.named;
-            counted = ih.counted ∙ (let q : length gs' + length (generics_among ns)
-                ≡ length gs + suc (length (generics_among ns)) = omega (arith, length-append gs (generic_of g ∷ []))
-                in q)
-                ∙ ap (λ (l : List ℕ). length gs + length l) (sym e);
             listed =
                 ih.listed ∙ append_assoc gs (generic_of g ∷ []) (map (generic_at book) (generics_among ns))
                 ∙ ap (λ (y : Generic). gs ++ y ∷ map (generic_at book) (generics_among ns)) one
                 ∙ ap (λ (l : List ℕ). gs ++ map (generic_at book) l) (sym e);
-            generics_long = ih.generics_long;
             only = ih.only;
           }
 

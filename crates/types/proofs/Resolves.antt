@@ -1,7 +1,7 @@
 -- The code's resolvers do what the two resolvers of the definitions say.
 -- Assumes nothing.
 use Rattle.std.proofs.Common.{◌≡◌, ℕ, zero, suc, ◌+◌, ◌-◌, ◌≤◌, ◌<◌, Bool, true, false, List, [], ◌∷◌, ◌++◌, length}
-use Rattle.std.proofs.Common.{refl, sym, ap, ◌∙◌, arith, subst, append_assoc, append-nil, length-append, Some, None}
+use Rattle.std.proofs.Common.{refl, sym, ap, ◌∙◌, arith, subst, append_assoc, length-append, Some, None}
 use Rattle.std.proofs.Common.{Option}
 use mathlib.Core.Option.{Option as Maybe, some, none, map}
 use Rattle.record.specs.declared.kind.Kind.TheVariants as kinds
@@ -20,9 +20,9 @@ use Rattle.types.specs.Lowering.{State, run, resolving}
 use Rattle.types.specs.Resolved.{ResolvedType, named, one_child, two_children, Names, own_number, alias_of, lookup}
 use Rattle.types.specs.Resolved.{pair_number, with_stub, with_pair}
 use Rattle.types.specs.Step.{Step, Resolved, ◌>>=◌, bare, whole, over_one, over_two, poison}
-use Rattle.types.specs.Records.{below, type_records, StandsAt}
+use Rattle.types.specs.Records.{below, type_records}
 use Rattle.types.specs.Resolve.{qualified}
-use Rattle.types.specs.Resolve.{TypeExpr, name, generic, type_expr, Found, type, stub, unresolved, first_of}
+use Rattle.types.specs.Resolve.{TypeExpr, name, type_expr, Found, type, stub, unresolved, first_of}
 use Rattle.types.specs.Resolve.{is_declared, is_ambiguous, find_name, resolve_name, find_qualified, resolve_qualified}
 use Rattle.types.specs.Resolve.{Head, alias, no_alias, no_number, find_head, Substitution, Resolver, resolve_by}
 use Rattle.types.specs.Resolve.{is_parameter, beyond, resolve_type_expr, resolve_type_expr_with_substitution}
@@ -33,13 +33,12 @@ use Rattle.types.specs.Code as code
 use Rattle.types.specs.Walk as walk
 use Rattle.types.proofs.TypeRecords.{type_has_records}
 use Rattle.types.proofs.Refining.{left, does_then, does_in, does_within}
-use Rattle.types.proofs.Placed.{standing}
 use Rattle.types.proofs.TypeExprs.{Same, same_plain, same_name, same_qualified, same_generic, same_one, same_two}
 use Rattle.types.proofs.TypeExprs.{same_type, name_of, qualified_of, same_parameter}
-use Rattle.types.proofs.PairsMet.{IsPair}
+use Rattle.types.proofs.PairsUnmet.{IsPair}
 use Rattle.types.proofs.Writes.{does_root, does_leaf, named_leaf, changed, does_number, does_poison}
 use Rattle.types.proofs.Copied.{does_copy}
-use Rattle.types.proofs.Finding.{look_up, pairs_same, SameFound, an_alias, a_number, a_stub, a_message, found_by}
+use Rattle.types.proofs.Finding.{look_up, pairs_same, SameFound, an_alias, a_number, a_stub, an_ambiguous, an_unknown, found_by}
 use Rattle.types.proofs.Finding.{found_is, found, SameHead, is_alias, is_no_alias, is_no_number, headed}
 use Rattle.types.proofs.Stubbing.{knows_stub, knows_pair}
 
@@ -76,22 +75,6 @@ as_head target unknown n argument span no_number s = poison unknown n 0 0 span s
 abbrev pair_found : Maybe ℕ → Maybe ℕ → Found
 pair_found p l = first_of (map (λ n. type (named n)) p ∷ map (λ k. stub) l ∷ []) (unresolved 2)
 
-name_step : (book : Book) (n : ℕ) (span : Span) (k : Names)
-    → resolve_name book n span k ≡ as_found n span (find_name book n k) k
-unfolding resolve_name
-name_step book n span k = refl
-
-pair_step : (space n : ℕ) (span : Span) (k : Names) → resolve_qualified space n span k
-    ≡ as_found_pair space n span (pair_found (pair_number k space n) (lookup k space)) k
-unfolding resolve_qualified find_qualified
-pair_step space n span k = refl
-
-generic_step : (book : Book) (child : Resolver) (target : Substitution → Resolver) (unknown n a : ℕ) (span : Span)
-    (k : Names)
-    → resolve_by book child target unknown (generic n a) span k ≡ as_head target unknown n a span (find_head book n k) k
-unfolding resolve_by
-generic_step book child target unknown n a span k = refl
-
 module _ (lent : Lent) (book : Book) (c : code.State) (k : Names) (s : State) (h : Stands lent book c k s) where
   -- a number
   known : (m : ℕ) → Resolves lent book (code.emit (named_record m) c) (whole (named m)) k s
@@ -107,19 +90,31 @@ module _ (lent : Lent) (book : Book) (c : code.State) (k : Names) (s : State) (h
       (λ k. whole (named k.next) k') k s) (sym h.knows.next_is)
       (does_number lent book c k k' s h k.next g same f)
 
+  -- a stub for a name, and for a pair
+  pub new_stub : (n : ℕ) → n < c.names.bound → own_number k n ≡ none
+      → Resolves lent book (code.add_stub n c) (λ k. whole (named k.next) (with_stub n k)) k s
+  unfolding code.add_stub with_stub
+  new_stub n inside free =
+      next_number (λ x. stubbed x n) (with_stub n k) refl
+      (λ few after. knows_stub book c.names k s.results (named_record k.next) h.knows few after n free inside)
+
+  pub new_pair : (m space n : ℕ) → IsPair book m space n → pair_number k space n ≡ none
+      → Resolves lent book (code.add_pair space n c) (λ k. whole (named k.next) (with_pair space n k)) k s
+  unfolding code.add_pair with_pair
+  new_pair m space n is free =
+      next_number (λ x. paired x space n) (with_pair space n k) refl
+      (λ few after. knows_pair book c.names k s.results (named_record k.next) h.knows few after m space n is free)
+
   by_found : (n : ℕ) (span : Span) → n < c.names.bound → (f : founds.Found) (g : Found) → SameFound s.results f g
       → g ≡ find_name book n k
       → Resolves lent book (code.by_found n span f c) (as_found n span g) k s
-  unfolding code.add_stub with_stub
   by_found n span inside _ _ (an_alias p t st) e = does_copy lent book c k s h p t st
   by_found n span inside _ _ (a_number m) e = known m.0
-  by_found n span inside _ _ a_stub e =
-      next_number (λ x. stubbed x n) (with_stub n k) refl
-      (λ few after. knows_stub book c.names k s.results (named_record k.next) h.knows few after n
-      (stub_free book n k (sym e)) inside)
-  by_found n span inside _ _ (a_message m) e = does_poison lent book c k s h m n 0 0 span
+  by_found n span inside _ _ a_stub e = new_stub n inside (stub_free book n k (sym e))
+  by_found n span inside _ _ an_ambiguous e = does_poison lent book c k s h 0 n 0 0 span
+  by_found n span inside _ _ an_unknown e = does_poison lent book c k s h 1 n 0 0 span
 
-  a_name : (n : ℕ) (span : Span) → n < c.names.bound → Resolves lent book (code.resolve_name n span c)
+  pub a_name : (n : ℕ) (span : Span) → n < c.names.bound → Resolves lent book (code.resolve_name n span c)
       (resolve_name book n span) k s
   unfolding code.resolve_name resolve_name
   a_name n span inside = by_found n span inside (code.find_name n c) (find_name book n k)
@@ -128,10 +123,8 @@ module _ (lent : Lent) (book : Book) (c : code.State) (k : Names) (s : State) (h
   by_space : (m space n : ℕ) → IsPair book m space n → pair_number k space n ≡ none → (span : Span) (l : Option ℕ)
       → Resolves lent book (code.by_space l space n span c)
       (as_found_pair space n span (pair_found none (option_of (λ i. i) l))) k s
-  unfolding code.add_pair first_of with_pair
-  by_space m space n is free span (Some l) =
-      next_number (λ x. paired x space n) (with_pair space n k) refl
-      (λ few after. knows_pair book c.names k s.results (named_record k.next) h.knows few after m space n is free)
+  unfolding first_of
+  by_space m space n is free span (Some l) = new_pair m space n is free
   by_space m space n is free span None = does_poison lent book c k s h 2 space n 0 span
 
   by_pair : (m space n : ℕ) → IsPair book m space n → (span : Span) (o : Option TypeId)
@@ -145,7 +138,7 @@ module _ (lent : Lent) (book : Book) (c : code.State) (k : Names) (s : State) (h
       (as_found_pair space n span (pair_found none l)) k s)
       (look_up lent book c k s h space) (by_space m space n is (sym same) span (code.look_up space c))
 
-  a_pair : (m space n : ℕ) → IsPair book m space n → (span : Span)
+  pub a_pair : (m space n : ℕ) → IsPair book m space n → (span : Span)
       → Resolves lent book (code.resolve_qualified space n span c) (resolve_qualified space n span) k s
   unfolding code.resolve_qualified resolve_qualified find_qualified
   a_pair m space n is span =
@@ -267,7 +260,7 @@ module _ (lent : Lent) (book : Book) where
         → Resolves lent book (walk.by_type child target unknown span c x)
         (resolve_by book child' target' unknown y span) k s
     unfolding resolve_by
-    by_type at _ _ (same_plain r t leaf) inside pair = does_leaf lent book c k s h r t leaf
+    by_type at _ _ (same_plain kind sub a t leaf) inside pair = does_leaf lent book c k s h (bare_record kind sub a 0 0) t leaf
     by_type at _ _ (same_name n) inside pair = a_name lent book c k s h n span (inside n refl)
     by_type at _ _ (same_qualified space n) inside pair = a_pair lent book c k s h at space n (pair space n refl) span
     by_type at _ _ (same_generic n a) inside pair = by_head n a (code.find_head n c) (find_head book n k)
@@ -370,11 +363,3 @@ unfolding resolve_type
 does_resolve_type lent book n c k s h =
     does_in lent book (Roots k s.results) (λ b. walk.resolve 64 n (b ! n).span c) (resolve_type book n) c k s h
     (resolves lent book 64 (omega arith) n (book ! n).span c k s h)
-
--- and then its records stand behind what was written before
-pub resolved_stands : (k : Names) (rs : List Record) (n : ℕ) (t : Resolved) (k' : Names) (rs' : List Record)
-    → Roots k rs n t k' rs' → StandsAt rs' (length rs) n t.type
-resolved_stands k rs n t k' rs' v =
-    subst (λ (i : ℕ). StandsAt rs' (length rs) i t.type) (sym (v.root_is ∙ v.root_at))
-    (standing rs' rs [] (length rs) t.type (v.adds ∙ ap (λ (x : List Record). rs ++ x)
-    (sym (append-nil (type_records (length rs) t.type)))) refl)

@@ -1,4 +1,5 @@
--- The two resolvers write and tell records within their widths, if the book's records are, and take no step deeper than the 65th.
+-- The two resolvers write and tell records within their widths, if the book's records are, and take no step deeper than
+-- the 65th.
 -- Assumes nothing.
 use Prim.Native.Nat.{ℕ, zero, suc, ◌-◌, ◌^◌, ◌≤◌, ◌<◌}
 use mathlib.Core.Bool.{Bool, true, false}

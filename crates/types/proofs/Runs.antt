@@ -4,7 +4,7 @@ use Rattle.std.proofs.Common.{◌≡◌, ℕ, suc, ◌+◌, ◌≤◌, Bool, tru
 use Rattle.std.proofs.Common.{ap, ◌∙◌, arith, append_assoc, length-append, add-zero}
 use Rattle.std.proofs.lemmas.Bool.Decides.{nat_tests}
 use Rattle.record.specs.declared.Record.{Record}
-use Rattle.types.specs.Lowering.{done, and_then, Limits, State, with_result, full, Out, finished, stopped, run}
+use Rattle.types.specs.Lowering.{and_then, Limits, State, with_result, full, Out, finished, stopped, run}
 use Rattle.types.specs.Events.{go_on}
 use Rattle.types.specs.Resolved.{ResolvedType, primitive, sub_byte, semantic, named, one_child, two_children}
 use Rattle.types.specs.Resolved.{inline_bits, Names}
@@ -148,15 +148,3 @@ run-whole t most k s =
     ∙ go-finished (nat_lt (length s.results + length (type_records (length s.results) t)) (suc most.results))
     (λ x. (record { root = x.0; type = t }, x.1)) (length s.results + below t, k)
     (with_results s (type_records (length s.results) t)) s.place
-
--- a record, and what is made of its number
-pub run-give : {A : Type 0} (most : Limits) (r : Record) (f : ℕ → A) (k : Names) (s : State)
-    → run {A = A × Names} most (and_then (emit r k) (λ x. done (f x.0, x.1))) s
-    ≡ wrote most s (r ∷ []) (f (length s.results), k)
-unfolding run
-run-give {A = A} most r f k s =
-    let g : ℕ × Names → A × Names = λ x. (f x.0, x.1) in
-    runs_in_turn _ _ most (emit r k) (λ x. done (g x)) s
-    ∙ ap (λ o. go_on o (λ x u. finished (g x) u)) (run-emit most r k s)
-    ∙ go-finished (nat_lt (length s.results + 1) (suc most.results)) g (length s.results, k)
-    (with_results s (r ∷ [])) s.place

@@ -33,7 +33,8 @@ Sized (inline_bits n) = n < 2 ^ 16
 abbrev pub SizedSpan : Span → Type 0
 SizedSpan s = (s.offset < 2 ^ 32) × (s.len < 2 ^ 32)
 
--- numbers and types of names are within their widths, n results being there: each stub is a result; as many numbers are given as names and pairs have one
+-- numbers and types of names are within their widths, n results being there: each stub is a result; as many numbers are
+-- given as names and pairs have one
 pub record Sound (s : Names) (n : ℕ) : Type 0 where
   pub next : s.next ≤ 2 ^ 32 + n
   pub numbers : All (λ x. x.1 < 2 ^ 64) s.numbers

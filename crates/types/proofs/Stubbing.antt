@@ -1,23 +1,22 @@
 -- Stubs: a number more for a name, and for a qualified name.
 -- Assumes nothing.
-use Rattle.std.proofs.Common.{◌≡◌, ℕ, suc, ◌+◌, ◌≤◌, ◌<◌, min, Bool, true, false, List, [], ◌∷◌, ◌++◌, length, take}
+use Rattle.std.proofs.Common.{◌≡◌, ℕ, suc, ◌+◌, ◌≤◌, ◌<◌, min, Bool, true, false, List, [], ◌∷◌, ◌++◌, length}
 use Rattle.std.proofs.Common.{nat_lt, refl, sym, ap, ◌∙◌, arith, subst, length-append, Some, None, Option}
 use Rattle.std.proofs.Common.{get_or-set_same, get_or-set_other, length-set, ◌⊎◌, inl, inr, eqb}
 use Rattle.std.proofs.lemmas.Bool.{cases_eq}
 use Rattle.std.proofs.lemmas.Bool.Decides.{nat_tests}
-use Rattle.std.proofs.lemmas.List.{map-append, take_more_set}
+use Rattle.std.proofs.lemmas.List.{map-append}
 use mathlib.Core.Option.{Option as Maybe, some, none, map, or_else}
 use Rattle.record.specs.declared.Record.{Record}
 use Rattle.record.specs.declared.type_id.TypeId.{TypeId}
 use Rattle.book.specs.Lists.{find, keep}
 use Rattle.book.specs.Outline.{Book}
-use Rattle.book.proofs.Lists.{keep-length}
 use Rattle.types.specs.declared.names.Pair.{Pair}
 use Rattle.types.specs.Resolved.{Names, own_number, alias_of, pair_number, entry, with_stub, with_pair}
 use Rattle.types.specs.Resolve.{is_declared}
-use Rattle.types.specs.Tables.{Tables, type_id, number_in, alias_in, stubbed, paired}
-use Rattle.types.specs.Stands.{option_of, Knows, IsAlias, below_types, pair_of, is_met}
-use Rattle.types.proofs.PairsMet.{IsPair, one_met}
+use Rattle.types.specs.Tables.{Tables, type_id, number_in, stubbed, paired}
+use Rattle.types.specs.Stands.{option_of, Knows, below_types, pair_of, is_unmet}
+use Rattle.types.proofs.PairsUnmet.{IsPair, one_unmet}
 
 -- one entry more
 either : {A : Type 0} (b : Bool) (x : ℕ × A) (o q r : Maybe (ℕ × A))
@@ -111,8 +110,6 @@ module _ (book : Book) (c : Tables) (k : Names) (rs : List Record) (r : Record) 
         record {
           numbers_long = rw (is_inside, length-set c.numbers n (Some (type_id c.next))) h.numbers_long;
           aliases_long = h.aliases_long;
-          pairs_long = h.pairs_long;
-          pairs_many = h.pairs_many;
           next_is = same_next;
           next_few = few_next;
           types_few = omega (arith, h.types_few);
@@ -120,7 +117,7 @@ module _ (book : Book) (c : Tables) (k : Names) (rs : List Record) (r : Record) 
           declared_are = λ m. declared m (cases_eq m n);
           ambiguous_are = h.ambiguous_are;
           generics_are = h.generics_are;
-          pairs_few = h.pairs_few;
+          pairs_room = h.pairs_room;
           pairs_are = h.pairs_are;
           aliases_are = after.aliases_are;
           uses_below = h.uses_below;
@@ -131,25 +128,22 @@ module _ (book : Book) (c : Tables) (k : Names) (rs : List Record) (r : Record) 
     abbrev among : List ((ℕ × ℕ) × ℕ)
     among = k.pairs ++ ((space, name), k.next) ∷ []
 
-    more_met : suc (length (keep (is_met k.pairs) book.records)) ≤ length (keep (is_met among) book.records)
-    more_met = one_met book k m space name k.next is free
+    fewer_unmet : suc (length (keep (is_unmet among) book.records)) ≤ length (keep (is_unmet k.pairs) book.records)
+    fewer_unmet = one_unmet book k m space name k.next is free
 
-    small : c.pair_count < c.pair_bound
-    small = omega (arith, h.pairs_few, more_met, keep-length (is_met among) book.records, h.pairs_many)
+    small : length c.pairs < c.bound
+    small = omega (arith, h.pairs_room, fewer_unmet)
 
-    is_room : nat_lt c.pair_count c.pair_bound ≡ true
-    is_room = let less : c.pair_count < c.pair_bound = small in grind (arith, nat_tests)
+    is_room : nat_lt (length c.pairs) c.bound ≡ true
+    is_room = let less : length c.pairs < c.bound = small in grind (arith, nat_tests)
 
     pub knows_pair : Knows book (paired c space name) (with_pair space name k) (rs ++ r ∷ [])
     unfolding with_pair own_number alias_of
     knows_pair =
         let p : Pair = record { space = space; name = name; number = type_id c.next } in
-        let long : c.pair_count < length c.pairs = omega (arith, small, h.pairs_long) in
         record {
           numbers_long = h.numbers_long;
           aliases_long = h.aliases_long;
-          pairs_long = rw (is_room, length-set c.pairs c.pair_count p) h.pairs_long;
-          pairs_many = h.pairs_many;
           next_is = same_next;
           next_few = few_next;
           types_few = omega (arith, h.types_few);
@@ -157,13 +151,9 @@ module _ (book : Book) (c : Tables) (k : Names) (rs : List Record) (r : Record) 
           declared_are = h.declared_are;
           ambiguous_are = h.ambiguous_are;
           generics_are = h.generics_are;
-          pairs_few = rw is_room (omega (arith, h.pairs_few, more_met));
+          pairs_room = rw is_room (omega (arith, h.pairs_room, fewer_unmet, length-append c.pairs (p ∷ [])));
           pairs_are =
-              rw (
-                is_room,
-                take_more_set c.pairs c.pair_count p long,
-                map-append pair_of (take c.pair_count c.pairs) (p ∷ []),
-              )
+              rw (is_room, map-append pair_of c.pairs (p ∷ []))
               (ap (λ (l : List ((ℕ × ℕ) × ℕ)). l ++ ((space, name), c.next) ∷ []) h.pairs_are
               ∙ ap (λ (i : ℕ). k.pairs ++ ((space, name), i) ∷ []) h.next_is);
           aliases_are = after.aliases_are;

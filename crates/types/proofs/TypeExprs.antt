@@ -21,7 +21,8 @@ use Rattle.types.proofs.Writes.{Leaf}
 
 -- a type record, here and there
 pub data Same : exprs.TypeExpr → TypeExpr → Type 0 where
-  same_plain : (r : Record) (t : ResolvedType) → Leaf r t → Same (expr.Plain r) (plain t)
+  same_plain : (kind : Kind) (sub a : ℕ) (t : ResolvedType) → Leaf (bare_record kind sub a 0 0) t
+      → Same (expr.Plain kind sub a) (plain t)
   same_name : (n : ℕ) → Same (expr.Name n) (name n)
   same_qualified : (space n : ℕ) → Same (expr.Qualified space n) (qualified space n)
   same_generic : (n a : ℕ) → Same (expr.Generic n a) (generic n a)
@@ -45,15 +46,15 @@ by_code_is : (r : Record) → type_expr r ≡ by_code r r.kind
 unfolding type_expr
 by_code_is r = refl
 
-bits : (r : Record) → Same (expr.Plain (bare_record kinds.InlineBits 0 r.a 0 0)) (plain (inline_bits r.a))
+bits : (r : Record) → Same (expr.Plain kinds.InlineBits 0 r.a) (plain (inline_bits r.a))
 unfolding below type_records emit_type
-bits r = same_plain _ _ (record { low = refl; only = λ n. refl; emits = refl })
+bits r = same_plain _ _ _ _ (record { low = refl; only = λ n. refl; emits = refl })
 
 same_kind : (r : Record) (k : Kind) → Same (code.type_expr r (Ok k)) (by_code r (code_of k))
 unfolding below type_records emit_type
-same_kind r kinds.Primitive = same_plain _ _ (record { low = refl; only = λ n. refl; emits = refl })
-same_kind r kinds.SubByte = same_plain _ _ (record { low = refl; only = λ n. refl; emits = refl })
-same_kind r kinds.Semantic = same_plain _ _ (record { low = refl; only = λ n. refl; emits = refl })
+same_kind r kinds.Primitive = same_plain _ _ _ _ (record { low = refl; only = λ n. refl; emits = refl })
+same_kind r kinds.SubByte = same_plain _ _ _ _ (record { low = refl; only = λ n. refl; emits = refl })
+same_kind r kinds.Semantic = same_plain _ _ _ _ (record { low = refl; only = λ n. refl; emits = refl })
 same_kind r kinds.Named = same_name r.a
 same_kind r kinds.Qualified = same_qualified r.a r.b
 same_kind r kinds.Generic = same_generic r.a r.b
@@ -134,7 +135,7 @@ qualified_of r space n e = go (is_kind 1 r) (is_kind 2 r) (is_kind 3 r) (is_kind
 
 pub same_parameter : (p x : ℕ) (a : exprs.TypeExpr) (b : TypeExpr) → Same a b
     → walk.is_parameter p a ≡ is_parameter (record { parameter = p; argument = x }) b
-same_parameter p x _ _ (same_plain r t l) = refl
+same_parameter p x _ _ (same_plain kind sub i t l) = refl
 same_parameter p x _ _ (same_name n) = refl
 same_parameter p x _ _ (same_qualified space n) = refl
 same_parameter p x _ _ (same_generic n a) = refl

@@ -1,4 +1,4 @@
--- Plain aliases: `lower_alias` of the original. Words in quotation marks are document 01's.
+-- Plain aliases: `lower_alias` of the original. Words in quotation marks are rules of docs/FORMAT.md in brief.
 -- Assumes nothing.
 use Rattle.std.specs.Prelude.{ℕ}
 use Rattle.record.specs.declared.Record.{Record}

@@ -1,5 +1,5 @@
--- The names that the tables by name have an entry for: those of declarations, of ambiguous names, and of types that are names. No other name is
--- ever given a number or an alias.
+-- The names that the tables by name have an entry for: those of declarations, of ambiguous names, and of types that are
+-- names. No other name is ever given a number or an alias.
 -- Assumes nothing.
 use Rattle.std.specs.Prelude.{ℕ, ◌≤◌, ◌<◌, Bool, not, ◌&&◌, ◌||◌, List, ◌≡◌, leb, eqb}
 use Rattle.record.specs.declared.Record.{Record}

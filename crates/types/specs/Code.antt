@@ -1,6 +1,6 @@
 -- What the code's methods do, over its tables and what it has written.
 -- Assumes nothing.
-use Rattle.std.specs.Prelude.{ℕ, zero, suc, ◌+◌, ◌-◌, min, Bool, true, false, nat_lt, if◌then◌else◌, Option, Some, None, Result, Ok, Err}
+use Rattle.std.specs.Prelude.{◌≡◌, ℕ, zero, suc, ◌+◌, ◌-◌, min, Bool, true, false, nat_lt, if◌then◌else◌, Option, Some, None, Result, Ok, Err}
 use Rattle.record.specs.declared.kind.Kind.{Kind}
 use Rattle.record.specs.declared.kind.Kind.TheVariants.{Primitive, SubByte, Semantic, Named, Qualified, Generic, OverOne, OverTwo, InlineBits, Diagnostic}
 use Rattle.record.specs.declared.kind.UnknownKind.{UnknownKind}
@@ -26,6 +26,8 @@ use Rattle.types.specs.declared.lowering.Found.{Found}
 use Rattle.types.specs.declared.lowering.Found.TheVariants.{Alias, Known, Stub, Unresolved}
 use Rattle.types.specs.declared.lowering.Head.{Head}
 use Rattle.types.specs.declared.lowering.Head.TheVariants as head
+use Rattle.types.specs.declared.diagnostic.Message.TheVariants as messages
+use Rattle.types.specs.Messages.{message_number, message_class, class_number}
 use Rattle.types.specs.Tables.{Tables, tables, number_in, alias_in, is_marked, pair_in, generic_in, stubbed, paired}
 
 pub record State : Type 0 where
@@ -56,6 +58,15 @@ done a s = record { answer = Ok a; state = s }
 
 abbrev pub refuse : {A : Type 0} → Cause → State → Outcome A
 refuse c s = record { answer = Err (record { cause = c; place = s.place }); state = s }
+
+-- what a method answers and leaves behind is what this step does, and what it lends from stays the same
+abbrev pub Steps : {A : Type 0} → (N : ℕ) → Lowering N → Lowering N → Result A Refusal → (State → Outcome A) → Type 0
+Steps N old new result step =
+    (result ≡ (step (state_of N old)).answer)
+    × (state_of N new ≡ (step (state_of N old)).state)
+    × (new.names.ghost_name ≡ old.names.ghost_name)
+    × (new.results.ghost_name ≡ old.results.ghost_name)
+    × (new.diagnostics.ghost_name ≡ old.diagnostics.ghost_name)
 
 -- one step after another
 abbrev pub after : {A B : Type 0} → Result A Refusal → State → (A → State → Outcome B) → Outcome B
@@ -91,15 +102,15 @@ message m a b class span = record (bare_record Diagnostic m a b class) { span = 
 
 -- the type that a record is, by its kind
 abbrev pub type_expr : Record → Result Kind UnknownKind → TypeExpr
-type_expr r (Ok Primitive) = Plain (bare_record Primitive r.sub 0 0 0)
-type_expr r (Ok SubByte) = Plain (bare_record SubByte r.sub r.a 0 0)
-type_expr r (Ok Semantic) = Plain (bare_record Semantic r.sub 0 0 0)
+type_expr r (Ok Primitive) = Plain Primitive r.sub 0
+type_expr r (Ok SubByte) = Plain SubByte r.sub r.a
+type_expr r (Ok Semantic) = Plain Semantic r.sub 0
 type_expr r (Ok Named) = Name r.a
 type_expr r (Ok Qualified) = types.Qualified r.a r.b
 type_expr r (Ok Generic) = types.Generic r.a r.b
 type_expr r (Ok OverOne) = One r.sub r.v r.a
 type_expr r (Ok OverTwo) = Two r.sub r.a r.b
-type_expr r kind = Plain (bare_record InlineBits 0 r.a 0 0)
+type_expr r kind = Plain InlineBits 0 r.a
 
 -- the type at record n
 abbrev pub type_at : Book → ℕ → TypeExpr
@@ -157,10 +168,10 @@ look_up name s = or_alias (number_in s.names name) name s
 abbrev pub unknown : Option TypeId → Bool → Found
 unknown (Some n) wildcards = Known n
 unknown None true = Stub
-unknown None false = Unresolved 1
+unknown None false = Unresolved messages.Unresolved
 
 abbrev pub unless_ambiguous : Bool → Option TypeId → Bool → Found
-unless_ambiguous true own wildcards = Unresolved 0
+unless_ambiguous true own wildcards = Unresolved messages.Ambiguous
 unless_ambiguous false own wildcards = unknown own wildcards
 
 abbrev pub by_own : Option TypeId → ℕ → State → Found
@@ -203,7 +214,7 @@ abbrev pub by_found : ℕ → Span → Found → State → Outcome ℕ
 by_found name span (Alias place) s = copy_type place s
 by_found name span (Known n) s = emit (named_record n.0) s
 by_found name span Stub s = add_stub name s
-by_found name span (Unresolved m) s = poison m name 0 0 span s
+by_found name span (Unresolved m) s = poison (message_number m) name 0 (class_number (message_class m)) span s
 
 -- the type that a name is
 unfoldable pub resolve_name : ℕ → Span → State → Outcome ℕ

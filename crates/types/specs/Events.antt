@@ -1,5 +1,6 @@
--- Causes 9 and 10, told of one thing that a lowering does and of what it does before that: all that it does as one list, and the first thing
--- there that is over a limit. The proofs are in proofs/Events.antt. Words in quotation marks are document 01's.
+-- Causes 9 and 10, told of one thing that a lowering does and of what it does before that: all that it does as one
+-- list, and the first thing there that is over a limit. The proofs are in proofs/Events.antt. Words in quotation marks
+-- are rules of docs/FORMAT.md in brief.
 -- Assumes nothing.
 use Rattle.std.specs.Prelude.{ℕ, suc, ◌≤◌, Bool, true, false, List, [], ◌∷◌, ◌++◌, ◌↔◌, ◌≡◌, ltb, eqb, length}
 use Rattle.record.specs.declared.Record.{Record}
@@ -11,7 +12,8 @@ pub data Event : Type 0 where
   lowers resolves : ℕ → Event
   tells writes : Record → Event
 
--- all that a lowering does, n results being there. Behind a step past 64 the list goes on with a filler that no run comes to.
+-- all that a lowering does, n results being there. Behind a step past 64 the list goes on with a filler that no run
+-- comes to.
 unfoldable pub events : {A : Type 0} → Lowering A → ℕ → List Event
 events (done a) n = []
 events (lowering p t) n = lowers p ∷ events t n
@@ -51,8 +53,8 @@ place_after p (resolves d ∷ es) = place_after p es
 place_after p (tells r ∷ es) = place_after p es
 place_after p (writes r ∷ es) = place_after p es
 
--- the row of a cause holds of an event, behind those before it. 9: "resolving deeper than 64". 10: "one record more than a used limit", so the
--- records before it are as many as the limit.
+-- the row of a cause holds of an event, behind those before it. 9: "resolving deeper than 64". 10: "one record more
+-- than a used limit", so the records before it are as many as the limit.
 unfoldable pub over : Stop → Limits → List Event → Event → Bool
 over too_deep most before (resolves d) = ltb 64 d
 over too_deep most before (lowers p) = false
@@ -72,7 +74,8 @@ Fits most es =
 abbrev pub behind : List Event → State
 behind es = record { place = place_after 0 es; results = written es; diagnostics = told es }
 
--- behind the events b, the row of c holds of an event of the list es, at place p, and none holds of an earlier one: "first met"
+-- behind the events b, the row of c holds of an event of the list es, at place p, and none holds of an earlier one:
+-- "first met"
 pub record StopsAt (most : Limits) (b es : List Event) (c : Stop) (p : ℕ) : Type 0 where
   pub before : List Event
   pub event : Event
@@ -99,7 +102,8 @@ FinishedIfAllFit =
     × (s ≡ behind (b ++ events t (length (written b))))
     )
 
--- What a lowering adds, from any state on: the records that its events write and tell, behind those that are there, and within the limits
+-- What a lowering adds, from any state on: the records that its events write and tell, behind those that are there, and
+-- within the limits
 pub record Adds {A : Type 0} (most : Limits) (t : Lowering A) (s : State) (a : A) (s' : State) : Type 0 where
   pub gives : answer t (length s.results) ≡ a
   pub place : s'.place ≡ place_after s.place (events t (length s.results))

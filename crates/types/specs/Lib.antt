@@ -17,3 +17,6 @@ pub mod Registry
 pub mod Begun
 pub mod PlainAliases
 pub mod Over
+pub mod Agrees
+pub mod Rooted
+pub mod Messages

@@ -1,4 +1,5 @@
--- What a lowering does, one thing after the other, and how far it comes under limits. Words in quotation marks are document 01's.
+-- What a lowering does, one thing after the other, and how far it comes under limits. Words in quotation marks are
+-- rules of docs/FORMAT.md in brief.
 -- Assumes nothing.
 use Rattle.std.specs.Prelude.{ℕ, true, false, List, [], ◌∷◌, ◌++◌, ltb, length}
 use Rattle.record.specs.declared.Record.{Record}
@@ -29,8 +30,8 @@ pub record Limits : Type 0 where
   pub results : ℕ
   pub diagnostics : ℕ
 
--- "Used limits: result 49,152 bytes and 2,048 records, diagnostics 6,144 bytes and 256 records, or as many whole records as a shorter slice
--- holds"
+-- "Used limits: result 49,152 bytes and 2,048 records, diagnostics 6,144 bytes and 256 records, or as many whole
+-- records as a shorter slice holds"
 abbrev pub used_limits : List ℕ → List ℕ → Limits
 used_limits results diagnostics = record { results = room_for 2048 results; diagnostics = room_for 256 diagnostics }
 
@@ -58,11 +59,11 @@ abbrev pub with_diagnostic : Record → State → State
 with_diagnostic r s =
     record { place = s.place; results = s.results; diagnostics = s.diagnostics ++ (r ∷ []) }
 
--- rows 9 and 10 of the table "When a book is turned back"
+-- rows 9 and 10 of the table of causes (docs/FORMAT.md, section 4)
 pub data Stop : Type 0 where
   too_deep full : Stop
 
--- "Number"
+-- the number of the cause
 unfoldable pub stop_number : Stop → ℕ
 stop_number too_deep = 9
 stop_number full = 10
@@ -72,7 +73,8 @@ pub data Out (A : Type 0) : Type 0 where
   finished : A → State → Out A
   stopped : Stop → ℕ → Out A
 
--- a lowering under limits: refused by "resolving deeper than 64" and by "one record more than a used limit", "first met"
+-- a lowering under limits: refused by "resolving deeper than 64" and by "one record more than a used limit", "first
+-- met"
 unfoldable pub run : {A : Type 0} → Limits → Lowering A → State → Out A
 run most (done a) s = finished a s
 run most (lowering p t) s = run most t (moved p s)

@@ -1,5 +1,5 @@
--- Type numbers that a book's declarations have, and its aliases: `register_declarations` of the original. Words in quotation marks are document
--- 01's.
+-- Type numbers that a book's declarations have, and its aliases: `register_declarations` of the original. Words in
+-- quotation marks are rules of docs/FORMAT.md in brief.
 -- Assumes nothing.
 use Rattle.std.specs.Prelude.{ℕ, Bool, not, List, [], ◌∷◌, ◌++◌, map, length}
 use Rattle.book.specs.Lists.{any, keep, numbered_from}

@@ -1,4 +1,4 @@
--- The result records of a resolved type as one list. Words in quotation marks are document 01's.
+-- The result records of a resolved type as one list. Words in quotation marks are rules of docs/FORMAT.md in brief.
 -- Assumes nothing.
 use Rattle.std.specs.Prelude.{ℕ, suc, ◌+◌, ◌<◌, cond, ◌||◌, List, [], ◌∷◌, ◌++◌, map, ◌≡◌, length, take, drop}
 use Rattle.record.specs.declared.Record.{Record}

@@ -1,6 +1,6 @@
 -- What registering the declarations of a book does to the code's tables.
 -- Assumes nothing.
-use Rattle.std.specs.Prelude.{ℕ, ◌+◌, not, nat_lt, if◌then◌else◌, List, [], ◌∷◌, Bool, true, false, Option, Some, None, Result, Ok, drop, replicate, slice_set}
+use Rattle.std.specs.Prelude.{ℕ, ◌+◌, not, nat_lt, if◌then◌else◌, List, [], ◌∷◌, ◌++◌, length, Bool, true, false, Option, Some, None, Result, Ok, drop, replicate, slice_set}
 use Rattle.record.specs.declared.kind.Kind.{Kind}
 use Rattle.record.specs.declared.kind.Kind.TheVariants.{Message, Union, Newtype, Alias, Ambiguous, TypeParameter, Annotation, Argument, TombstoneArgument}
 use Rattle.record.specs.declared.kind.UnknownKind.{UnknownKind}
@@ -8,7 +8,7 @@ use Rattle.record.specs.declared.Record.{Record}
 use Rattle.record.specs.Kind.{kind_from}
 use Rattle.book.specs.Outline.{Book, ◌!◌}
 use Rattle.types.specs.declared.names.Generic.{Generic}
-use Rattle.types.specs.Tables.{Tables, type_id, no_generic, stubbed}
+use Rattle.types.specs.Tables.{Tables, stubbed}
 
 -- nothing is known of any name below a number
 abbrev pub nothing_known : ℕ → Tables
@@ -20,12 +20,8 @@ nothing_known bound =
       numbers = replicate bound None;
       aliases = replicate bound None;
       ambiguous = replicate bound false;
-      generic_bound = bound;
-      generics = replicate bound no_generic;
-      generic_count = 0;
-      pair_bound = bound;
-      pairs = replicate bound (record { space = 0; name = 0; number = type_id 0 });
-      pair_count = 0;
+      generics = [];
+      pairs = [];
     }
 
 -- a name is ambiguous between wildcard imports
@@ -37,9 +33,7 @@ marked s name =
 abbrev pub with_generic : Tables → ℕ → Generic → Tables
 with_generic s name g =
     record (stubbed s name) {
-      generics =
-          if nat_lt s.generic_count s.generic_bound then slice_set s.generics s.generic_count g else s.generics;
-      generic_count = if nat_lt s.generic_count s.generic_bound then s.generic_count + 1 else s.generic_count;
+      generics = if nat_lt (length s.generics) s.bound then s.generics ++ g ∷ [] else s.generics;
     }
 
 -- a declaration, by its kind: messages, unions and newtypes have the next number, and ambiguous names are marked

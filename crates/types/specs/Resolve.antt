@@ -1,4 +1,4 @@
--- The two resolvers. Words in quotation marks are document 01's.
+-- The two resolvers. Words in quotation marks are rules of docs/FORMAT.md in brief.
 -- Assumes nothing.
 use Rattle.std.specs.Prelude.{ℕ, zero, suc, ◌-◌, Bool, true, false, cond, ◌&&◌, List, [], ◌∷◌, eqb}
 use Rattle.std.proofs.Math.Option.{Option, some, none, map}
@@ -65,8 +65,8 @@ is_declared book n = any (λ r. is_one_of (20 ∷ 21 ∷ 22 ∷ []) r && eqb r.a
 abbrev pub is_ambiguous : Book → ℕ → Bool
 is_ambiguous book n = any (λ r. is_kind 25 r && eqb r.a n) book.records
 
--- "Named, in order: plain alias (its result copied); declared 20-22; ambiguous (poison 4,294,967,295, message 0); known number; with
--- wildcards a fresh stub; else poison, message 1."
+-- "Named, in order: plain alias (its result copied); declared 20-22; ambiguous (poison 4,294,967,295, message 0); known
+-- number; with wildcards a fresh stub; else poison, message 1."
 unfoldable pub find_name : Book → ℕ → Names → Found
 find_name book n s =
     first_of
@@ -129,16 +129,16 @@ pub record Substitution : Type 0 where
 abbrev pub Resolver : Type 0
 Resolver = ℕ → Span → Step Resolved
 
--- a generic: its target with its first parameter replaced. "An inner generic passes its argument on unsubstituted. A generic's target takes
--- the span of the use".
+-- a generic: its target with its first parameter replaced. "An inner generic passes its argument on unsubstituted. A
+-- generic's target takes the span of the use".
 abbrev as_head : (Substitution → Resolver) → ℕ → ℕ → ℕ → Span → Head → Step Resolved
 as_head target unknown n argument span (alias g) s =
     target (record { parameter = g.parameter; argument = argument }) g.target span s
 as_head target unknown n argument span no_alias s = poison 3 n 0 1 span s
 as_head target unknown n argument span no_number s = poison unknown n 0 0 span s
 
--- what both resolvers do with a type record, given what they do with a child and with a generic's target, and the message for an unknown
--- head. Children "keep their own" span.
+-- what both resolvers do with a type record, given what they do with a child and with a generic's target, and the
+-- message for an unknown head. Children "keep their own" span.
 unfoldable pub resolve_by : Book → Resolver → (Substitution → Resolver) → ℕ → TypeExpr → Span → Step Resolved
 resolve_by book child target unknown (plain t) span s = whole t s
 resolve_by book child target unknown (name n) span s = resolve_name book n span s
@@ -163,7 +163,8 @@ is_parameter sub (two p a b) = false
 abbrev pub beyond : Step Resolved
 beyond s = resolving 65 (done (record { root = 0; type = named POISON }, s))
 
--- `left`: how many steps are left, of 64. "the start is 1; a step to a child, a generic's target or a substituted argument adds 1".
+-- `left`: how many steps are left, of 64. "the start is 1; a step to a child, a generic's target or a substituted
+-- argument adds 1".
 unfoldable mutual
   pub resolve_type_expr : ℕ → Book → Resolver
   resolve_type_expr zero book n span s = beyond s

@@ -1,4 +1,5 @@
--- Resolved types: `ResolvedType` of the original, and the tables that names are looked up in. Words in quotation marks are document 01's.
+-- Resolved types: `ResolvedType` of the original, and the tables that names are looked up in. Words in quotation marks
+-- are rules of docs/FORMAT.md in brief.
 -- Assumes nothing.
 use Rattle.std.specs.Prelude.{ℕ, suc, ◌&&◌, List, [], ◌∷◌, ◌++◌, eqb}
 use Rattle.std.proofs.Math.Option.{Option, some, none, map, or_else}
@@ -25,7 +26,7 @@ pub data ResolvedType : Type 0 where
 abbrev pub POISON : ℕ
 POISON = 4294967295
 
--- what is known of names while a book is lowered: the type registry of the original, "tables in book order"
+-- what is known of names while a book is lowered: the type registry of the original, as tables in book order
 pub record Names : Type 0 where
   -- the number that is given next
   pub next : ℕ

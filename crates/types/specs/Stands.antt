@@ -1,6 +1,7 @@
--- How the code's tables and slices stand for the names and the state of a lowering, and its steps for the steps of the definitions.
+-- How the code's tables and slices stand for the names and the state of a lowering, and its steps for the steps of the
+-- definitions.
 -- Assumes nothing.
-use Rattle.std.specs.Prelude.{◌≡◌, ℕ, ◌+◌, ◌*◌, ◌/◌, ◌≤◌, ◌<◌, Bool, true, false, ◌&&◌, eqb, List, ◌++◌, length, take, map, nat_lt}
+use Rattle.std.specs.Prelude.{◌≡◌, ℕ, ◌+◌, ◌≤◌, ◌<◌, Bool, true, false, not, ◌&&◌, eqb, List, ◌++◌, length, map, nat_lt}
 use Rattle.std.specs.Prelude.{Option, Some, None, Result, Ok, Err}
 use Rattle.std.proofs.Math.Option.{Option as Maybe, some, none}
 use Rattle.record.specs.declared.Record.{Record}
@@ -54,16 +55,14 @@ pair_of p = ((p.space, p.name), p.number.0)
 abbrev pub generic_of : generics.Generic → Generic
 generic_of g = record { parameter = g.parameter; target = g.target }
 
--- the record is a qualified name with one of some pairs
-abbrev pub is_met : List ((ℕ × ℕ) × ℕ) → Record → Bool
-is_met ps r = is_kind 5 r && any (λ p. eqb p.0.0 r.a && eqb p.0.1 r.b) ps
+-- the record is a qualified name with none of some pairs
+abbrev pub is_unmet : List ((ℕ × ℕ) × ℕ) → Record → Bool
+is_unmet ps r = is_kind 5 r && not (any (λ p. eqb p.0.0 r.a && eqb p.0.1 r.b) ps)
 
 -- the tables stand for the names, the results rs being there
 pub record Knows (book : Book) (c : Tables) (k : Names) (rs : List Record) : Type 0 where
   pub numbers_long : length c.numbers ≡ c.bound
   pub aliases_long : length c.aliases ≡ c.bound
-  pub pairs_long : length c.pairs ≡ c.pair_bound
-  pub pairs_many : length book.records ≤ c.pair_bound
   pub next_is : c.next ≡ k.next
   pub next_few : k.next ≤ 1344 + length rs
   pub types_few : c.types ≤ k.next
@@ -71,8 +70,9 @@ pub record Knows (book : Book) (c : Tables) (k : Names) (rs : List Record) : Typ
   pub declared_are : (n : ℕ) → is_declared book n ≡ below_types c.types (own_number k n)
   pub ambiguous_are : (n : ℕ) → is_marked c n ≡ is_ambiguous book n
   pub generics_are : (m : ℕ) → option_of generic_of (generic_in c m) ≡ entry m (generics_of book)
-  pub pairs_few : c.pair_count ≤ length (keep (is_met k.pairs) book.records)
-  pub pairs_are : map pair_of (take c.pair_count c.pairs) ≡ k.pairs
+  -- there is room for a pair more at each record that none is met at
+  pub pairs_room : length c.pairs + length (keep (is_unmet k.pairs) book.records) ≤ c.bound
+  pub pairs_are : map pair_of c.pairs ≡ k.pairs
   pub aliases_are : (n : ℕ) → IsAlias rs (alias_in c n) (alias_of k n)
   pub uses_below : (m : ℕ) → is_kind 4 (book ! m) ≡ true → (book ! m).a < c.bound
   pub alias_names_below : (m : ℕ) → is_kind 23 (book ! m) ≡ true → (book ! m).a < c.bound
@@ -109,7 +109,8 @@ Ends lent V (Err e) c (stopped x p) = (e ≡ record { cause = cause_of x; place 
 Ends lent V (Ok n) c (stopped x p) = ⊥
 Ends lent V (Err e) c (finished a s) = ⊥
 
--- what may hold of the answers of two steps, the code's and the definitions', and of the names and the results behind them
+-- what may hold of the answers of two steps, the code's and the definitions', and of the names and the results behind
+-- them
 abbrev pub Holds : Type 0 → Type 0 → Type 1
 Holds A B = A → B → Names → List Record → Type 0
 
@@ -118,8 +119,8 @@ pub record Grown (rs rs' : List Record) : Type 0 where
   pub more : List Record
   pub is : rs' ≡ rs ++ more
 
--- A step is done that began with the results rs: the state stands for the names and the state behind it, and V holds of the answers, the names
--- and the results
+-- A step is done that began with the results rs: the state stands for the names and the state behind it, and V holds of
+-- the answers, the names and the results
 pub record Done
     {A B : Type 0} (lent : Lent) (book : Book) (rs : List Record) (V : Holds A B) (n : A) (c : code.State) (a : B × Names) (s : State) :
     Type 0 where

@@ -1,4 +1,5 @@
--- Steps of a lowering that know the names so far; the records of a resolved type. Words in quotation marks are document 01's.
+-- Steps of a lowering that know the names so far; the records of a resolved type. Words in quotation marks are rules of
+-- docs/FORMAT.md in brief.
 -- Assumes nothing.
 use Rattle.std.specs.Prelude.{ℕ, List, [], ◌∷◌, Bool, ◌&&◌, eqb}
 use Rattle.book.specs.Faults.{is_kind}

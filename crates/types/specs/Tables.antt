@@ -1,6 +1,6 @@
 -- The code's tables by name, as plain lists.
 -- Assumes nothing.
-use Rattle.std.specs.Prelude.{ℕ, ◌+◌, ◌-◌, ◌&&◌, ◌==◌, nat_lt, min, if◌then◌else◌, List, Bool, false, take, find, slice_index_or, slice_set, Option, Some, None, option_map}
+use Rattle.std.specs.Prelude.{ℕ, ◌+◌, ◌-◌, ◌&&◌, ◌==◌, nat_lt, min, if◌then◌else◌, List, Bool, false, find, ◌∷◌, [], ◌++◌, length, slice_index_or, slice_get, slice_set, Option, Some, None, option_map}
 use Rattle.record.specs.declared.type_id.TypeId.{TypeId}
 use Rattle.types.specs.declared.names.Names.{Names}
 use Rattle.types.specs.declared.names.Place.{Place}
@@ -8,7 +8,7 @@ use Rattle.types.specs.declared.names.Pair.{Pair}
 use Rattle.types.specs.declared.names.Generic.{Generic}
 
 pub record Tables : Type 0 where
-  -- there is an entry for the names below
+  -- there is an entry for the names below, and room for so many generic aliases and pairs
   pub bound : ℕ
   -- messages, unions and newtypes have the numbers below
   pub types : ℕ
@@ -17,14 +17,8 @@ pub record Tables : Type 0 where
   pub numbers : List (Option TypeId)
   pub aliases : List (Option Place)
   pub ambiguous : List Bool
-  -- there is room for so many generic aliases, and so many there are
-  pub generic_bound : ℕ
   pub generics : List Generic
-  pub generic_count : ℕ
-  -- and for so many pairs
-  pub pair_bound : ℕ
   pub pairs : List Pair
-  pub pair_count : ℕ
 
 abbrev pub tables : (N : ℕ) → Names N → Tables
 tables N s =
@@ -35,12 +29,8 @@ tables N s =
       numbers = s.numbers;
       aliases = s.aliases;
       ambiguous = s.ambiguous;
-      generic_bound = N;
-      generics = s.generics;
-      generic_count = s.generic_count;
-      pair_bound = N;
-      pairs = s.pairs;
-      pair_count = s.pair_count;
+      generics = s.generics.items;
+      pairs = s.pairs.items;
     }
 
 -- a type number
@@ -62,17 +52,15 @@ is_marked s name = nat_lt name s.bound && slice_index_or s.ambiguous name false
 -- the number of a qualified name
 abbrev pub pair_in : Tables → ℕ → ℕ → Option TypeId
 pair_in s space name =
-    option_map (λ p. p.number) (find (λ p. p.space == space && p.name == name) (take s.pair_count s.pairs))
+    option_map (λ p. p.number) (find (λ p. p.name == name && p.space == space) s.pairs)
 
-abbrev pub no_generic : Generic
-no_generic = record { parameter = 0; target = 0 }
+abbrev pub no_pair : Pair
+no_pair = record { space = 0; name = 0; number = type_id 0 }
 
 -- the generic alias with a number
 abbrev pub generic_in : Tables → ℕ → Option Generic
 generic_in s number =
-    if nat_lt number s.types then None
-    else (if nat_lt (number - s.types) s.generic_count && nat_lt (number - s.types) s.generic_bound
-    then Some (slice_index_or s.generics (number - s.types) no_generic) else None)
+    if nat_lt number s.types then None else slice_get s.generics (number - s.types)
 
 -- the number behind the next
 abbrev pub after_next : Tables → ℕ
@@ -92,10 +80,9 @@ paired s space name =
     record s {
       next = after_next s;
       pairs =
-          if nat_lt s.pair_count s.pair_bound
-          then slice_set s.pairs s.pair_count (record { space = space; name = name; number = type_id s.next })
+          if nat_lt (length s.pairs) s.bound
+          then s.pairs ++ record { space = space; name = name; number = type_id s.next } ∷ []
           else s.pairs;
-      pair_count = if nat_lt s.pair_count s.pair_bound then s.pair_count + 1 else s.pair_count;
     }
 
 -- a plain alias is lowered

@@ -25,7 +25,7 @@ by_head target unknown name argument span NoAlias s = poison 3 name 0 1 span s
 by_head target unknown name argument span NoNumber s = poison unknown name 0 0 span s
 
 abbrev pub by_type : Child → Target → ℕ → Span → State → TypeExpr → Outcome ℕ
-by_type child target unknown span s (Plain r) = emit r s
+by_type child target unknown span s (Plain kind sub a) = emit (bare_record kind sub a 0 0) s
 by_type child target unknown span s (Name name) = resolve_name name span s
 by_type child target unknown span s (Qualified space name) = resolve_qualified space name span s
 by_type child target unknown span s (Generic name argument) =
@@ -39,7 +39,7 @@ by_type child target unknown span s (Two sub a b) =
 -- the record is the parameter
 abbrev pub is_parameter : ℕ → TypeExpr → Bool
 is_parameter parameter (Name name) = name == parameter
-is_parameter parameter (Plain r) = false
+is_parameter parameter (Plain kind sub a) = false
 is_parameter parameter (Qualified space name) = false
 is_parameter parameter (Generic name argument) = false
 is_parameter parameter (One sub size a) = false

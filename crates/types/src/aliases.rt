@@ -1,8 +1,8 @@
 //! Plain aliases, in book order; from then on names are known by them.
 
-ghost use Rattle.std.specs.Prelude.{◌≡◌, ◌≤◌};
-ghost use Rattle.types.specs.Code.{state_of};
-ghost use Rattle.types.specs.PlainAliases.{lowered_alias, lower_alias, lower_aliases};
+ghost use Rattle.std.specs.Prelude.{◌≡◌};
+ghost use Rattle.types.specs.Code.{Steps};
+ghost use Rattle.types.specs.PlainAliases as plain;
 
 use crate::lowering::Lowering;
 use crate::names::Place;
@@ -13,7 +13,7 @@ use record::refusal::Refusal;
 
 // The result record of a plain alias, over the root of its type.
 fn lowered_alias(item: &Record, root: u16) -> Record
-    ensures { result ≡ lowered_alias item.now root }
+    ensures { result ≡ plain.lowered_alias item.now root }
 {
     Record::bare(Kind::LoweredAlias, 0, item.a, root, 0).with_span(item.span)
 }
@@ -22,12 +22,7 @@ impl<'b, 'n, 'r, 'd, const N: usize> Lowering<'b, 'n, 'r, 'd, N> {
     // Lowers the plain alias at record `n`.
     #[tactic(auto, unfolding(crate::specs::PlainAliases::lower_alias))]
     fn lower_alias(&mut self, n: u16) -> Result<(), Refusal>
-        requires { N ≤ 4096 }
-        ensures answer { result ≡ (lower_alias n (state_of N self.old)).answer }
-        ensures state { state_of N self.new ≡ (lower_alias n (state_of N self.old)).state }
-        ensures names { self.new.names.ghost_name ≡ self.old.names.ghost_name }
-        ensures results { self.new.results.ghost_name ≡ self.old.results.ghost_name }
-        ensures diagnostics { self.new.diagnostics.ghost_name ≡ self.old.diagnostics.ghost_name }
+        ensures { Steps N self.old self.new result (plain.lower_alias n) }
     {
         let item = self.book.record(n);
         let first = self.result_count();
@@ -41,12 +36,7 @@ impl<'b, 'n, 'r, 'd, const N: usize> Lowering<'b, 'n, 'r, 'd, N> {
     /// Lowers the plain aliases among some declarations.
     #[tactic(auto, using(crate::proofs::AliasSteps::alias_steps))]
     pub fn lower_aliases(&mut self, declarations: &[u16]) -> Result<(), Refusal>
-        requires { N ≤ 4096 }
-        ensures answer { result ≡ (lower_aliases declarations.now (state_of N self.old)).answer }
-        ensures state { state_of N self.new ≡ (lower_aliases declarations.now (state_of N self.old)).state }
-        ensures names { self.new.names.ghost_name ≡ self.old.names.ghost_name }
-        ensures results { self.new.results.ghost_name ≡ self.old.results.ghost_name }
-        ensures diagnostics { self.new.diagnostics.ghost_name ≡ self.old.diagnostics.ghost_name }
+        ensures { Steps N self.old self.new result (plain.lower_aliases declarations.now) }
     {
         for n in declarations {
             if is_plain_alias(self.book, *n) {

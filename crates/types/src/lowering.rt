@@ -1,12 +1,16 @@
 //! All that a lowering reads and writes, and what the resolvers do without a further step.
 
-ghost use Rattle.std.specs.Prelude.{◌≡◌, ◌≤◌};
+ghost use Rattle.std.specs.Prelude.{◌≡◌};
 ghost use Rattle.record.specs.Kind.{kind_from};
+ghost use Rattle.record.specs.Made.{bare_record};
 ghost use Rattle.record.specs.Written.{read_at};
 ghost use Rattle.types.specs.Begun.{begun};
-ghost use Rattle.types.specs.Code.{state_of, emit, tell, poison, message, type_expr, shifted, copy_one, copy_type};
-ghost use Rattle.types.specs.Code.{look_up, find_name, find_head, add_stub, add_pair, resolve_name, resolve_qualified};
+ghost use Rattle.types.specs.Tables.{tables};
+ghost use Rattle.types.specs.Messages.{message_number, message_class, class_number};
+ghost use Rattle.types.specs.Code.{Steps, state_of};
+ghost use Rattle.types.specs.Code as code;
 
+use crate::diagnostic::Message;
 use crate::names::{Generic, Names, Place};
 use crate::{MOST_DIAGNOSTICS, MOST_RESULTS, POISON_TYPE_ID};
 use book::Book;
@@ -16,7 +20,8 @@ use record::refusal::{Cause, Refusal};
 use record::type_id::{TypeId, named};
 use record::{Record, Span};
 
-/// All that a lowering reads and writes.
+/// All that a lowering reads and writes. The slices stand beside their cursors: a struct over a slice that is changed
+/// tells its lender nothing of what the slice holds at the end.
 #[derive(Drop)]
 pub struct Lowering<'b, 'n, 'r, 'd, const N: usize> {
     pub book: &'b Book<'b>,
@@ -31,14 +36,14 @@ pub struct Lowering<'b, 'n, 'r, 'd, const N: usize> {
 /// A type record, its children by their record numbers.
 #[derive(Clone, Copy)]
 pub enum TypeExpr {
-    /// One that is carried through: its result record.
-    Plain(Record),
+    /// One that is carried through: the kind, sub and first field of its result record.
+    Plain(Kind, u8, u16),
     Name(u16),
     /// Namespace and name.
     Qualified(u16, u16),
     /// Head and argument.
     Generic(u16, u16),
-    /// Sub, size and child.
+    /// Sub, size and child. A sub is carried through as the number that it is.
     One(u8, u64, u16),
     /// Sub and children.
     Two(u8, u16, u16),
@@ -50,7 +55,7 @@ pub enum Found {
     Alias(Place),
     Known(TypeId),
     Stub,
-    Unresolved(u8),
+    Unresolved(Message),
 }
 
 /// What the head of a generic is found to be.
@@ -61,33 +66,33 @@ pub enum Head {
     NoNumber,
 }
 
-/// A diagnostic.
+/// A diagnostic, by the numbers of its message and its class, which may be any.
 pub fn message(m: u8, a: u16, b: u16, class: u64, span: Span) -> Record
-    ensures { result ≡ message m a b class span }
+    ensures { result ≡ code.message m a b class span }
 {
     Record::bare(Kind::Diagnostic, m, a, b, class).with_span(span)
 }
 
 // The type that a record is.
 pub(crate) fn type_expr(r: &Record) -> TypeExpr
-    ensures { result ≡ type_expr r.now (kind_from r.now.kind) }
+    ensures { result ≡ code.type_expr r.now (kind_from r.now.kind) }
 {
     match r.kind() {
-        Ok(Kind::Primitive) => TypeExpr::Plain(Record::bare(Kind::Primitive, r.sub, 0, 0, 0)),
-        Ok(Kind::SubByte) => TypeExpr::Plain(Record::bare(Kind::SubByte, r.sub, r.a, 0, 0)),
-        Ok(Kind::Semantic) => TypeExpr::Plain(Record::bare(Kind::Semantic, r.sub, 0, 0, 0)),
+        Ok(Kind::Primitive) => TypeExpr::Plain(Kind::Primitive, r.sub, 0),
+        Ok(Kind::SubByte) => TypeExpr::Plain(Kind::SubByte, r.sub, r.a),
+        Ok(Kind::Semantic) => TypeExpr::Plain(Kind::Semantic, r.sub, 0),
         Ok(Kind::Named) => TypeExpr::Name(r.a),
         Ok(Kind::Qualified) => TypeExpr::Qualified(r.a, r.b),
         Ok(Kind::Generic) => TypeExpr::Generic(r.a, r.b),
         Ok(Kind::OverOne) => TypeExpr::One(r.sub, r.v, r.a),
         Ok(Kind::OverTwo) => TypeExpr::Two(r.sub, r.a, r.b),
-        _ => TypeExpr::Plain(Record::bare(Kind::InlineBits, 0, r.a, 0, 0)),
+        _ => TypeExpr::Plain(Kind::InlineBits, 0, r.a),
     }
 }
 
 // A record of a type, so much further on: its references move along.
 fn shifted(r: &Record, by: u16) -> Record
-    ensures { result ≡ shifted by r.now (kind_from r.now.kind) }
+    ensures { result ≡ code.shifted by r.now (kind_from r.now.kind) }
 {
     match r.kind() {
         Ok(Kind::OverOne) => Record {
@@ -111,7 +116,7 @@ impl<'b, 'n, 'r, 'd, const N: usize> Lowering<'b, 'n, 'r, 'd, N> {
         results: &'r mut [u8],
         diagnostics: &'d mut [u8],
     ) -> Self
-        ensures state { state_of N result ≡ begun N book.now names.old results.old diagnostics.old }
+        ensures state { state_of N result ≡ begun book.now (tables N names.old) results.old diagnostics.old }
         ensures names { result.names.ghost_name ≡ names.entry.ghost_name }
         ensures results { result.results.ghost_name ≡ results.entry.ghost_name }
         ensures diagnostics { result.diagnostics.ghost_name ≡ diagnostics.entry.ghost_name }
@@ -146,50 +151,54 @@ impl<'b, 'n, 'r, 'd, const N: usize> Lowering<'b, 'n, 'r, 'd, N> {
     /// Writes a result; its number.
     #[tactic(auto, unfolding(crate::specs::Code::emit))]
     pub fn emit(&mut self, item: &Record) -> Result<u16, Refusal>
-        ensures answer { result ≡ (emit item.now (state_of N self.old)).answer }
-        ensures state { state_of N self.new ≡ (emit item.now (state_of N self.old)).state }
-        ensures names { self.new.names.ghost_name ≡ self.old.names.ghost_name }
-        ensures results { self.new.results.ghost_name ≡ self.old.results.ghost_name }
-        ensures diagnostics { self.new.diagnostics.ghost_name ≡ self.old.diagnostics.ghost_name }
+        ensures { Steps N self.old self.new result (code.emit item.now) }
     {
-        match self.written.push(&mut *self.results, item) {
-            Ok(n) => Ok(n),
-            Err(_) => Err(self.refusal(Cause::Full)),
-        }
+        let full = self.refusal(Cause::Full);
+        self.written
+            .push(&mut *self.results, item)
+            .map_err(|_| full)
+    }
+
+    // Writes a result that has a kind and these fields. It is for speed that it is a function and stands in its
+    // callers: a record that a resolver makes itself is cleared in its frame at each step, whether it is needed or not.
+    #[inline(always)]
+    pub(crate) fn emit_bare(
+        &mut self,
+        kind: Kind,
+        sub: u8,
+        a: u16,
+        b: u16,
+        v: u64,
+    ) -> Result<u16, Refusal>
+        ensures { Steps N self.old self.new result (code.emit (bare_record kind sub a b v)) }
+    {
+        self.emit(&Record::bare(kind, sub, a, b, v))
     }
 
     /// Writes a diagnostic.
     #[tactic(auto, unfolding(crate::specs::Code::tell))]
     pub fn tell(&mut self, item: &Record) -> Result<u16, Refusal>
-        ensures answer { result ≡ (tell item.now (state_of N self.old)).answer }
-        ensures state { state_of N self.new ≡ (tell item.now (state_of N self.old)).state }
-        ensures names { self.new.names.ghost_name ≡ self.old.names.ghost_name }
-        ensures results { self.new.results.ghost_name ≡ self.old.results.ghost_name }
-        ensures diagnostics { self.new.diagnostics.ghost_name ≡ self.old.diagnostics.ghost_name }
+        ensures { Steps N self.old self.new result (code.tell item.now) }
     {
-        match self.told.push(&mut *self.diagnostics, item) {
-            Ok(n) => Ok(n),
-            Err(_) => Err(self.refusal(Cause::Full)),
-        }
+        let full = self.refusal(Cause::Full);
+        self.told
+            .push(&mut *self.diagnostics, item)
+            .map_err(|_| full)
     }
 
     // Writes a message, and poison for the type.
     #[tactic(auto, unfolding(crate::specs::Code::poison))]
     pub(crate) fn poison(
         &mut self,
-        m: u8,
+        message: Message,
         a: u16,
         b: u16,
-        class: u64,
         span: Span,
     ) -> Result<u16, Refusal>
-        ensures answer { result ≡ (poison m a b class span (state_of N self.old)).answer }
-        ensures state { state_of N self.new ≡ (poison m a b class span (state_of N self.old)).state }
-        ensures names { self.new.names.ghost_name ≡ self.old.names.ghost_name }
-        ensures results { self.new.results.ghost_name ≡ self.old.results.ghost_name }
-        ensures diagnostics { self.new.diagnostics.ghost_name ≡ self.old.diagnostics.ghost_name }
+        ensures { Steps N self.old self.new result
+            (code.poison (message_number message) a b (class_number (message_class message)) span) }
     {
-        self.tell(&message(m, a, b, class, span))?;
+        self.tell(&message.record(a, b, span))?;
         self.emit(&named(TypeId(POISON_TYPE_ID)))
     }
 
@@ -211,26 +220,17 @@ impl<'b, 'n, 'r, 'd, const N: usize> Lowering<'b, 'n, 'r, 'd, N> {
     // Copies record `at` of a type so much further on.
     #[tactic(auto, unfolding(crate::specs::Code::copy_one))]
     fn copy_one(&mut self, at: u16, by: u16) -> Result<u16, Refusal>
-        ensures answer { result ≡ (copy_one at by (state_of N self.old)).answer }
-        ensures state { state_of N self.new ≡ (copy_one at by (state_of N self.old)).state }
-        ensures names { self.new.names.ghost_name ≡ self.old.names.ghost_name }
-        ensures results { self.new.results.ghost_name ≡ self.old.results.ghost_name }
-        ensures diagnostics { self.new.diagnostics.ghost_name ≡ self.old.diagnostics.ghost_name }
+        ensures { Steps N self.old self.new result (code.copy_one at by) }
     {
-        match self.result_at(at) {
-            Some(r) => self.emit(&shifted(&r, by)),
-            None => Err(self.refusal(Cause::Full)),
-        }
+        let full = self.refusal(Cause::Full);
+        let r = self.result_at(at).ok_or(full)?;
+        self.emit(&shifted(&r, by))
     }
 
     // Copies the type that stands at a place; the number of its root.
     #[tactic(auto, using(crate::proofs::Copies::copies), unfolding(crate::specs::Code::copy_type))]
     fn copy_type(&mut self, place: Place) -> Result<u16, Refusal>
-        ensures answer { result ≡ (copy_type place (state_of N self.old)).answer }
-        ensures state { state_of N self.new ≡ (copy_type place (state_of N self.old)).state }
-        ensures names { self.new.names.ghost_name ≡ self.old.names.ghost_name }
-        ensures results { self.new.results.ghost_name ≡ self.old.results.ghost_name }
-        ensures diagnostics { self.new.diagnostics.ghost_name ≡ self.old.diagnostics.ghost_name }
+        ensures { Steps N self.old self.new result (code.copy_type place) }
     {
         let by = self.result_count().saturating_sub(place.first);
         for at in place.first..place.root {
@@ -241,11 +241,10 @@ impl<'b, 'n, 'r, 'd, const N: usize> Lowering<'b, 'n, 'r, 'd, N> {
 
     // The number of a name: its own, or that of a plain alias to one, which a result record has in 64 bits.
     fn look_up(&self, name: u16) -> Option<u64>
-        requires { N ≤ 4096 }
-        ensures { result ≡ look_up name (state_of N self.now) }
+        ensures { result ≡ code.look_up name (state_of N self.now) }
     {
         if let Some(number) = self.names.number_of(name) {
-            return Some(number.0 as u64);
+            return Some(u64::from(number.0));
         }
         let place = self.names.alias_of(name)?;
         let root = self.result_at(place.root)?;
@@ -257,8 +256,7 @@ impl<'b, 'n, 'r, 'd, const N: usize> Lowering<'b, 'n, 'r, 'd, N> {
 
     // What a name is found to be.
     fn find_name(&self, name: u16) -> Found
-        requires { N ≤ 4096 }
-        ensures { result ≡ find_name name (state_of N self.now) }
+        ensures { result ≡ code.find_name name (state_of N self.now) }
     {
         if let Some(place) = self.names.alias_of(name) {
             return Found::Alias(place);
@@ -270,19 +268,18 @@ impl<'b, 'n, 'r, 'd, const N: usize> Lowering<'b, 'n, 'r, 'd, N> {
             }
         }
         if self.names.is_ambiguous(name) {
-            return Found::Unresolved(0);
+            return Found::Unresolved(Message::Ambiguous);
         }
         match number {
             Some(number) => Found::Known(number),
             None if self.book.wildcards() => Found::Stub,
-            None => Found::Unresolved(1),
+            None => Found::Unresolved(Message::Unresolved),
         }
     }
 
     // What the head of a generic is found to be.
     pub(crate) fn find_head(&self, name: u16) -> Head
-        requires { N ≤ 4096 }
-        ensures { result ≡ find_head name (state_of N self.now) }
+        ensures { result ≡ code.find_head name (state_of N self.now) }
     {
         match self.look_up(name) {
             None => Head::NoNumber,
@@ -296,12 +293,7 @@ impl<'b, 'n, 'r, 'd, const N: usize> Lowering<'b, 'n, 'r, 'd, N> {
     // A stub for a name.
     #[tactic(auto, unfolding(crate::specs::Code::add_stub))]
     pub(crate) fn add_stub(&mut self, name: u16) -> Result<u16, Refusal>
-        requires { N ≤ 4096 }
-        ensures answer { result ≡ (add_stub name (state_of N self.old)).answer }
-        ensures state { state_of N self.new ≡ (add_stub name (state_of N self.old)).state }
-        ensures names { self.new.names.ghost_name ≡ self.old.names.ghost_name }
-        ensures results { self.new.results.ghost_name ≡ self.old.results.ghost_name }
-        ensures diagnostics { self.new.diagnostics.ghost_name ≡ self.old.diagnostics.ghost_name }
+        ensures { Steps N self.old self.new result (code.add_stub name) }
     {
         let root = self.emit(&named(TypeId(self.names.next)))?;
         self.names.give_number(name);
@@ -311,12 +303,7 @@ impl<'b, 'n, 'r, 'd, const N: usize> Lowering<'b, 'n, 'r, 'd, N> {
     // A stub for a qualified name.
     #[tactic(auto, unfolding(crate::specs::Code::add_pair))]
     fn add_pair(&mut self, space: u16, name: u16) -> Result<u16, Refusal>
-        requires { N ≤ 4096 }
-        ensures answer { result ≡ (add_pair space name (state_of N self.old)).answer }
-        ensures state { state_of N self.new ≡ (add_pair space name (state_of N self.old)).state }
-        ensures names { self.new.names.ghost_name ≡ self.old.names.ghost_name }
-        ensures results { self.new.results.ghost_name ≡ self.old.results.ghost_name }
-        ensures diagnostics { self.new.diagnostics.ghost_name ≡ self.old.diagnostics.ghost_name }
+        ensures { Steps N self.old self.new result (code.add_pair space name) }
     {
         let root = self.emit(&named(TypeId(self.names.next)))?;
         self.names.add_pair(space, name);
@@ -326,18 +313,13 @@ impl<'b, 'n, 'r, 'd, const N: usize> Lowering<'b, 'n, 'r, 'd, N> {
     // The type that a name is.
     #[tactic(auto, unfolding(crate::specs::Code::resolve_name))]
     pub(crate) fn resolve_name(&mut self, name: u16, span: Span) -> Result<u16, Refusal>
-        requires { N ≤ 4096 }
-        ensures answer { result ≡ (resolve_name name span (state_of N self.old)).answer }
-        ensures state { state_of N self.new ≡ (resolve_name name span (state_of N self.old)).state }
-        ensures names { self.new.names.ghost_name ≡ self.old.names.ghost_name }
-        ensures results { self.new.results.ghost_name ≡ self.old.results.ghost_name }
-        ensures diagnostics { self.new.diagnostics.ghost_name ≡ self.old.diagnostics.ghost_name }
+        ensures { Steps N self.old self.new result (code.resolve_name name span) }
     {
         match self.find_name(name) {
             Found::Alias(place) => self.copy_type(place),
             Found::Known(number) => self.emit(&named(number)),
             Found::Stub => self.add_stub(name),
-            Found::Unresolved(m) => self.poison(m, name, 0, 0, span),
+            Found::Unresolved(message) => self.poison(message, name, 0, span),
         }
     }
 
@@ -349,19 +331,14 @@ impl<'b, 'n, 'r, 'd, const N: usize> Lowering<'b, 'n, 'r, 'd, N> {
         name: u16,
         span: Span,
     ) -> Result<u16, Refusal>
-        requires { N ≤ 4096 }
-        ensures answer { result ≡ (resolve_qualified space name span (state_of N self.old)).answer }
-        ensures state { state_of N self.new ≡ (resolve_qualified space name span (state_of N self.old)).state }
-        ensures names { self.new.names.ghost_name ≡ self.old.names.ghost_name }
-        ensures results { self.new.results.ghost_name ≡ self.old.results.ghost_name }
-        ensures diagnostics { self.new.diagnostics.ghost_name ≡ self.old.diagnostics.ghost_name }
+        ensures { Steps N self.old self.new result (code.resolve_qualified space name span) }
     {
         if let Some(number) = self.names.pair_number(space, name) {
             return self.emit(&named(number));
         }
         match self.look_up(space) {
             Some(_) => self.add_pair(space, name),
-            None => self.poison(2, space, name, 0, span),
+            None => self.poison(Message::UnresolvedNamespace, space, name, span),
         }
     }
 }

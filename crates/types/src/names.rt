@@ -1,10 +1,9 @@
 //! What is known of names while a book is lowered.
 
-ghost use Rattle.std.specs.Prelude.{◌≡◌};
-ghost use Rattle.types.specs.Tables.{tables, number_in, alias_in, is_marked, pair_in, generic_in};
-ghost use Rattle.types.specs.Tables.{stubbed, paired, aliased};
-ghost use Rattle.types.specs.Registry.{nothing_known, marked, with_generic};
+ghost use Rattle.std.specs.Prelude.{◌≤◌};
 
+use arrayvec::ArrayVec;
+use book::by_name;
 use record::type_id::TypeId;
 
 /// Where the records of a plain alias's type stand among the results.
@@ -15,7 +14,7 @@ pub struct Place {
 }
 
 /// A generic alias: the name of its first parameter, and its target.
-#[derive(Clone, Copy, Debug, PartialEq, Eq, Hash)]
+#[derive(Clone, Copy, Debug, Default, PartialEq, Eq, Hash)]
 pub struct Generic {
     pub parameter: u16,
     pub target: u16,
@@ -29,7 +28,26 @@ pub struct Pair {
     pub number: TypeId,
 }
 
-/// What is known of names, in a book of at most `N` records whose names are below `N`.
+// By hand, since a number has no default, and a list of fixed room asks for one.
+impl Default for Pair {
+    ghost use Rattle.std.specs.Prelude.{◌≡◌};
+    ghost use Rattle.types.specs.Tables.{no_pair};
+
+    ghost is_default = { λ p. p ≡ no_pair };
+
+    /// Names and number 0.
+    fn default() -> Self {
+        Pair {
+            space: 0,
+            name: 0,
+            number: TypeId(0),
+        }
+    }
+}
+
+/// What is known of names, in a book of at most `N` records whose names are below `N`. Three arrays by name, since each
+/// is read and written by itself: one of a struct of the three would be no plainer, and its entries take more room than
+/// theirs, all of which is cleared for each book. Pairs are a list that is looked through, since nothing is allocated.
 #[derive(Drop)]
 pub struct Names<const N: usize> {
     /// Messages, unions and newtypes have the numbers below, generic aliases the ones from there on.
@@ -39,15 +57,21 @@ pub struct Names<const N: usize> {
     pub numbers: [Option<TypeId>; N],
     pub aliases: [Option<Place>; N],
     pub ambiguous: [bool; N],
-    pub generics: [Generic; N],
-    pub generic_count: usize,
-    pub pairs: [Pair; N],
-    pub pair_count: usize,
+    /// By their numbers, from `types` on.
+    pub generics: ArrayVec<Generic, N>,
+    pub pairs: ArrayVec<Pair, N>,
+    ghost few: { N ≤ 4096 },
 }
 
 impl<const N: usize> Names<N> {
+    ghost use Rattle.std.specs.Prelude.{◌≡◌};
+    ghost use Rattle.types.specs.Tables.{tables, number_in, alias_in, is_marked, pair_in, generic_in};
+    ghost use Rattle.types.specs.Tables.{stubbed, paired, aliased};
+    ghost use Rattle.types.specs.Registry.{nothing_known, marked, with_generic};
+
     /// With nothing known.
     pub fn new() -> Self
+        requires { N ≤ 4096 }
         ensures { tables N result ≡ nothing_known N }
     {
         Names {
@@ -56,17 +80,8 @@ impl<const N: usize> Names<N> {
             numbers: [None; N],
             aliases: [None; N],
             ambiguous: [false; N],
-            generics: [Generic {
-                parameter: 0,
-                target: 0,
-            }; N],
-            generic_count: 0,
-            pairs: [Pair {
-                space: 0,
-                name: 0,
-                number: TypeId(0),
-            }; N],
-            pair_count: 0,
+            generics: ArrayVec::new(),
+            pairs: ArrayVec::new(),
         }
     }
 
@@ -74,34 +89,34 @@ impl<const N: usize> Names<N> {
     pub(crate) fn number_of(&self, name: u16) -> Option<TypeId>
         ensures { result ≡ number_in (tables N self.now) name }
     {
-        let name = name as usize;
-        if name < N { self.numbers[name] } else { None }
+        self.numbers.get(usize::from(name)).copied().flatten()
     }
 
     // Where the type of a plain alias stands.
     pub(crate) fn alias_of(&self, name: u16) -> Option<Place>
         ensures { result ≡ alias_in (tables N self.now) name }
     {
-        let name = name as usize;
-        if name < N { self.aliases[name] } else { None }
+        self.aliases.get(usize::from(name)).copied().flatten()
     }
 
     // Whether the name is ambiguous between wildcard imports.
     pub(crate) fn is_ambiguous(&self, name: u16) -> bool
         ensures { result ≡ is_marked (tables N self.now) name }
     {
-        let name = name as usize;
-        name < N && self.ambiguous[name]
+        self.ambiguous
+            .get(usize::from(name))
+            .copied()
+            .unwrap_or(false)
     }
 
     // The number of a qualified name.
     pub(crate) fn pair_number(&self, space: u16, name: u16) -> Option<TypeId>
         ensures { result ≡ pair_in (tables N self.now) space name }
     {
+        // The names first, since more of them differ.
         self.pairs
             .iter()
-            .take(self.pair_count)
-            .find(|pair| pair.space == space && pair.name == name)
+            .find(|pair| pair.name == name && pair.space == space)
             .map(|pair| pair.number)
     }
 
@@ -109,26 +124,18 @@ impl<const N: usize> Names<N> {
     pub(crate) fn generic_of(&self, number: u64) -> Option<Generic>
         ensures { result ≡ generic_in (tables N self.now) number }
     {
-        let types = self.types as u64;
+        let types = u64::from(self.types);
         if number < types {
             return None;
         }
-        let at = number - types;
-        if at < self.generic_count as u64 && at < N as u64 {
-            Some(self.generics[at as usize])
-        } else {
-            None
-        }
+        self.generics.get((number - types) as usize).copied()
     }
 
     // Gives the next number to a name.
     pub(crate) fn give_number(&mut self, name: u16)
         ensures { tables N self.new ≡ stubbed (tables N self.old) name }
     {
-        let name = name as usize;
-        if name < N {
-            self.numbers[name] = Some(TypeId(self.next));
-        }
+        by_name::put(&mut self.numbers, name, Some(TypeId(self.next)));
         self.next = self.next.saturating_add(1);
     }
 
@@ -136,20 +143,15 @@ impl<const N: usize> Names<N> {
     pub(crate) fn mark_ambiguous(&mut self, name: u16)
         ensures { tables N self.new ≡ marked (tables N self.old) name }
     {
-        let name = name as usize;
-        if name < N {
-            self.ambiguous[name] = true;
-        }
+        by_name::put(&mut self.ambiguous, name, true);
     }
 
     // Gives the next number to a generic alias.
     pub(crate) fn add_generic(&mut self, name: u16, generic: Generic)
         ensures { tables N self.new ≡ with_generic (tables N self.old) name generic }
     {
-        let at = self.generic_count;
-        if at < N {
-            self.generics[at] = generic;
-            self.generic_count += 1;
+        if !self.generics.is_full() {
+            self.generics.push(generic);
         }
         self.give_number(name);
     }
@@ -158,14 +160,12 @@ impl<const N: usize> Names<N> {
     pub(crate) fn add_pair(&mut self, space: u16, name: u16)
         ensures { tables N self.new ≡ paired (tables N self.old) space name }
     {
-        let at = self.pair_count;
-        if at < N {
-            self.pairs[at] = Pair {
+        if !self.pairs.is_full() {
+            self.pairs.push(Pair {
                 space,
                 name,
                 number: TypeId(self.next),
-            };
-            self.pair_count += 1;
+            });
         }
         self.next = self.next.saturating_add(1);
     }
@@ -174,9 +174,6 @@ impl<const N: usize> Names<N> {
     pub(crate) fn add_alias(&mut self, name: u16, place: Place)
         ensures { tables N self.new ≡ aliased (tables N self.old) name place }
     {
-        let name = name as usize;
-        if name < N {
-            self.aliases[name] = Some(place);
-        }
+        by_name::put(&mut self.aliases, name, Some(place));
     }
 }

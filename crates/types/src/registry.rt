@@ -1,6 +1,6 @@
 //! Numbers of declarations: messages, unions and newtypes first, then generic aliases.
 
-ghost use Rattle.std.specs.Prelude.{◌≡◌, ◌≤◌};
+ghost use Rattle.std.specs.Prelude.{◌≡◌};
 ghost use Rattle.record.specs.Kind.{kind_from};
 ghost use Rattle.book.specs.Outline.{◌!◌};
 ghost use Rattle.types.specs.Tables.{tables};
@@ -18,7 +18,8 @@ fn is_passed_over(item: &Record) -> bool
 {
     match item.kind() {
         Ok(Kind::Annotation | Kind::Argument | Kind::TombstoneArgument) => true,
-        _ => item.kind <= Kind::Operand as u8,
+        // By the code, since a first byte of 0, which is no kind, is passed over too.
+        _ => item.kind <= Kind::Operand.code(),
     }
 }
 
@@ -59,7 +60,6 @@ pub(crate) fn is_plain_alias(book: &Book<'_>, n: u16) -> bool
 impl<const N: usize> Names<N> {
     // Numbers a message, a union or a newtype, and marks a name that is ambiguous.
     fn register_type(&mut self, book: &Book<'_>, n: u16)
-        requires { N ≤ 4096 }
         ensures { tables N self.new ≡ with_type (book.now ! n) (kind_from (book.now ! n).kind) (tables N self.old) }
     {
         let item = book.record(n);
@@ -70,10 +70,10 @@ impl<const N: usize> Names<N> {
         }
     }
 
-    // The same for some declarations.
+    // The same for some declarations. The generic aliases are gone through after them, by a loop of their own: one loop
+    // for both would take the step as a closure over the names.
     #[tactic(auto, using(crate::proofs::Registers::types_step))]
     fn register_types(&mut self, book: &Book<'_>, declarations: &[u16])
-        requires { N ≤ 4096 }
         ensures { tables N self.new ≡ with_types book.now declarations.now (tables N self.old) }
     {
         for n in declarations {
@@ -83,7 +83,6 @@ impl<const N: usize> Names<N> {
 
     // Numbers a generic alias.
     fn register_alias(&mut self, book: &Book<'_>, n: u16)
-        requires { N ≤ 4096 }
         ensures { tables N self.new
             ≡ with_alias (book.now ! n) (kind_from (book.now ! n).kind) (parameter_behind book.now n) (tables N self.old) }
     {
@@ -104,7 +103,6 @@ impl<const N: usize> Names<N> {
     // The same for some declarations.
     #[tactic(auto, using(crate::proofs::Registers::aliases_step))]
     fn register_aliases(&mut self, book: &Book<'_>, declarations: &[u16])
-        requires { N ≤ 4096 }
         ensures { tables N self.new ≡ with_aliases book.now declarations.now (tables N self.old) }
     {
         for n in declarations {
@@ -114,7 +112,6 @@ impl<const N: usize> Names<N> {
 
     /// Numbers the declarations of a book and marks the names that are ambiguous.
     pub fn register(&mut self, book: &Book<'_>, declarations: &[u16])
-        requires { N ≤ 4096 }
         ensures { tables N self.new ≡ registered book.now declarations.now (tables N self.old) }
     {
         self.register_types(book, declarations);

@@ -11,18 +11,7 @@ use record::kind::{Kind, UnknownKind};
 fn has_entry(kind: Result<Kind, UnknownKind>) -> bool
     ensures { result ≡ has_entry kind }
 {
-    matches!(
-        kind,
-        Ok(
-            Kind::Named
-                | Kind::Message
-                | Kind::Union
-                | Kind::Newtype
-                | Kind::Alias
-                | Kind::Constant
-                | Kind::Ambiguous
-        )
-    )
+    kind.is_ok_and(|kind| kind == Kind::Named || kind.is_declaration())
 }
 
 // Whether record `m` has such a name, and it is not below `n`.
@@ -30,7 +19,7 @@ fn has_entry(kind: Result<Kind, UnknownKind>) -> bool
 fn is_over(book: &Book<'_>, m: u16, n: usize) -> bool
     ensures { result ≡ is_over n book.now m }
 {
-    has_entry(book.kind(m)) && n <= book.record(m).a as usize
+    has_entry(book.kind(m)) && n <= usize::from(book.record(m).a)
 }
 
 // Whether one of the first `count` records has such a name that is not below `n`.

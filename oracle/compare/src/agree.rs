@@ -15,7 +15,7 @@ fn same<T: PartialEq + std::fmt::Debug>(what: &str, ours: &T, theirs: &T) -> Fou
     Err(format!("{what}\n  answer: {ours:?}\n  Rust:   {theirs:?}"))
 }
 
-/// Document 01: "Wildcard books where one constant's type stubs a name that another's uses as namespace or generic head
+/// The format: "Wildcard books where one constant's type stubs a name that another's uses as namespace or generic head
 /// aren't compared".
 pub fn compared(wildcards: bool, trace: &Trace) -> bool {
     let stubbed = |(by, name): &(u32, u16)| trace.bare.iter().any(|(other, n)| n == name && other != by);
@@ -32,7 +32,7 @@ pub fn agree(book: &Book, results: &[Record], diagnostics: &[Record], trace: &Tr
     messages(&told, trace, &rust, ours.reached.len() == 1)
 }
 
-/// Holds them to the Rust's lowering with constants handed over one at a time in document 01's order: everything
+/// Holds them to the Rust's lowering with constants handed over one at a time in the format's order: everything
 /// exactly, types of constants without a value too.
 pub fn agree_in_order(book: &Book, results: &[Record], diagnostics: &[Record], trace: &Trace, rust: &Lowered) -> Found {
     let ours = results::read(results)?;

@@ -116,7 +116,7 @@ fn counted(book: &[u8], run: &Run) -> Result<(), String> {
     same("by counting", run.reply, reply)
 }
 
-/// What the Rust makes of an accepted book with its constants one at a time in document 01's order; everything agrees.
+/// What the Rust makes of an accepted book with its constants one at a time in the format's order; everything agrees.
 fn in_order(bytes: &[u8], full: &Run) -> Result<Option<Lowered>, String> {
     let Reply::Accepted { results, diagnostics, constants } = full.reply else {
         return Ok(None);
@@ -256,7 +256,7 @@ fn turn(records: &[Record], at: u32) -> (u8, u32) {
     }
 }
 
-/// The record numbers of the reached constants, in document 01's order.
+/// The record numbers of the reached constants, in the format's order.
 fn constants_of(records: &[Record]) -> Vec<u32> {
     let book = Book { wildcards: false, records: records.to_vec() };
     let place = |c: &Record| records.iter().position(|r| r.kind == 24 && r.a == c.a).map(|i| i as u32);

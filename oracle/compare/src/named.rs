@@ -1,5 +1,5 @@
-//! Books with names: document 01's own runs, and each edge with what must come of it. What is expected here is by hand,
-//! from document 01.
+//! Books with names: the known answers, and each edge with what must come of it. What is expected here is by hand, from
+//! the format.
 
 mod bodies;
 mod children;

@@ -1,4 +1,4 @@
-//! Reads the records of an accepted book back into what they say, and holds them to document 01's layout on the way:
+//! Reads the records of an accepted book back into what they say, and holds them to the format's layout on the way:
 //! every field, "children first, left before right, never shared", 46 behind its 45, nothing left over.
 
 use books::Record;

@@ -134,7 +134,7 @@ impl Lowering<'_> {
 
     /// A reached constant: its type, message 5 where it has no value, its 41.
     ///
-    /// Reading: the papers give no order between the type's records and message 5. The type goes
+    /// Reading: the format gives no order between the type's records and message 5. The type goes
     /// first: so its diagnostics stand before message 5, and a type too deep is 9 even where there
     /// is no room for message 5. Between message 5 and the 41 nothing shows: each is 10 at the 24.
     fn lower_constant(&mut self, number: u32, record: Record, value: Option<i64>) -> Result<(), Refusal> {

@@ -1,8 +1,9 @@
-//! A reference model of reading and lowering a signal book, written from document 01
-//! ("The signal book and its lowering") and the decisions on its open points, and from nothing else.
+//! A reference model of reading and lowering a signal book, written from the format and the
+//! decisions on its open points, and from nothing else.
 //!
-//! Words in quotation marks are document 01's. A comment that starts with "Reading:" marks a
-//! place where the papers are silent or can be read in two ways.
+//! Words in quotation marks are rules of the format in brief (docs/FORMAT.md has them in full). A
+//! comment that starts with "Reading:" marks a place where the format is silent or can be read in
+//! two ways.
 
 mod bodies;
 mod constants;
@@ -72,7 +73,7 @@ impl From<Refusal> for Reply {
     }
 }
 
-/// For every book and every two slices: the reply, with both slices left as document 01 says.
+/// For every book and every two slices: the reply, with both slices left as the format says.
 pub fn lower_book(book: &[u8], results: &mut [u8], diagnostics: &mut [u8]) -> (Reply, Trace) {
     // Causes 1 to 8: "Left as it was: all".
     let book = match read::read(book) {

@@ -1,4 +1,4 @@
-//! What the papers show is what is printed: the commands of README.md with the tool, the text it quotes, and the words that
+//! What the pages show is what is printed: the commands of README.md with the tool, the text it quotes, and the words that
 //! the C header has for causes.
 
 mod common;
@@ -13,7 +13,7 @@ fn text(name: &str) -> String {
     String::from_utf8(file(name)).unwrap()
 }
 
-/// The blocks of a paper that are marked by a word.
+/// The blocks of a page that are marked by a word.
 fn blocks(paper: &str, mark: &str) -> Vec<String> {
     let begin = format!("```{mark}\n");
     paper.split(&begin).skip(1).map(|rest| rest.split("```").next().unwrap().to_string()).collect()

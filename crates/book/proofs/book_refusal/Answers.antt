@@ -1,6 +1,5 @@
 -- `book::book_refusal` meets its contract: the word of what reading answers.
 -- Assumes nothing.
-use Rattle.std.proofs.Common.{◌+◌, ◌*◌, ap, ◌∙◌}
 use Rattle.book.proofs.Answers.{word_read, word_refused}
 use Rattle.book.proofs.book_refusal.Goals as goal
 
@@ -9,4 +8,4 @@ returns-in-Ok c = word_read c.args.book.now c.in-Ok.ensures.answer
 
 pub returns-in-Err : goal.returns-in-Err
 returns-in-Err c =
-    ap (λ n. 65536 * n + c.in-Err.refusal.place) c.number.ensures ∙ word_refused c.args.book.now c.in-Err.ensures.answer
+    rw (c.from.ensures, c.number.ensures, c.from-in-Err.ensures) (word_refused c.args.book.now c.in-Err.ensures.answer)

@@ -1,4 +1,4 @@
-//! Causes 1 to 8, written from the paper alone and apart from the generator.
+//! Causes 1 to 8, written from the format alone and apart from the generator.
 
 use crate::layout::Record;
 

@@ -287,7 +287,7 @@ fn operand(records: &[Record], at: u16) -> Box<Spanned<WhereOperand>> {
 mod tests {
     use super::*;
 
-    /// The numbers that document 01 gives by the order of an enum are the places of its cases in the source.
+    /// The numbers that the format gives by the order of an enum are the places of its cases in the source.
     #[test]
     fn enums_in_their_order() {
         assert!(PRIMITIVES.iter().enumerate().all(|(i, x)| *x as usize == i));

@@ -1,4 +1,4 @@
-//! What the lowering gave, read off its own types. Anything that document 01 has no word for stops the run.
+//! What the lowering gave, read off its own types. Anything that the format has no word for stops the run.
 
 use super::*;
 use crate::facts::{Body, Constant, Constraint, Field, Operand, Stub, Type, Variant};

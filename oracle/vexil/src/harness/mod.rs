@@ -1,4 +1,4 @@
-//! A module of `lower.rs`: makes the declarations of an accepted book, calls the lowering in document 01's order, and
+//! A module of `lower.rs`: makes the declarations of an accepted book, calls the lowering in the order of the parts, and
 //! reads off what it gives. Name 17 is `N17`, string 17 `S17`, list of inline bits 17 `L17`.
 
 #![warn(warnings)]
@@ -66,7 +66,7 @@ pub fn time_of_constants(book: &[u8]) -> Duration {
     time
 }
 
-/// The diagnostics of the original's own entry, which takes another order than document 01. Names that are ambiguous
+/// The diagnostics of the original's own entry, which takes another order than the format. Names that are ambiguous
 /// between imports are left out.
 pub fn lower_with_own_order(book: &[u8]) -> Vec<facts::Diagnostic> {
     let mut schema = declarations::schema(&records(book));
@@ -77,7 +77,7 @@ pub fn lower_with_own_order(book: &[u8]) -> Vec<facts::Diagnostic> {
     given::diagnostics(lower(&schema).1.into_iter())
 }
 
-/// The calls, in document 01's order, and what each part gives.
+/// The calls, in the order of the parts, and what each part gives.
 fn run(
     schema: &Schema,
     ctx: &mut LowerCtx,

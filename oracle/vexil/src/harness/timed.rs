@@ -37,7 +37,7 @@ impl Prepared {
         Context { ctx, ids: Vec::new() }
     }
 
-    /// The calls, in document 01's order, and nothing else.
+    /// The calls, in the order of the parts, and nothing else.
     pub fn lower(&self, context: &mut Context) {
         let (schema, ctx) = (&self.schema, &mut context.ctx);
         context.ids = register_declarations(schema, "", ctx);

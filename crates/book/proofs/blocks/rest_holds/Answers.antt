@@ -5,4 +5,4 @@ use Rattle.book.proofs.Counts.{zeros}
 use Rattle.book.proofs.blocks.rest_holds.Goals as goal
 
 pub returns : goal.returns
-returns c = c.are_zero.ensures ∙ zeros _
+returns c = rw (← c.from.ensures) (c.are_zero.ensures ∙ zeros _)

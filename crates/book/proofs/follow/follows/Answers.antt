@@ -1,20 +1,24 @@
 -- `book::follow::follows` meets its contract: the table is the rule, cell by cell, and kinds past it stand behind none.
 -- Assumes nothing.
-use mathlib.Core.Path.{ap₂, ◌∙◌}
-use native.Mathlib.Omega.{arith}
+use Rattle.std.proofs.Common.{ap₂, ◌∙◌}
 use Rattle.record.specs.Kind.{code_of}
 use Rattle.book.specs.Follow.{follow_of}
 use Rattle.book.specs.Tables.{kind_number}
-use Rattle.book.proofs.Places.{follow_is, no_kind, no_kind_before}
+use Rattle.book.proofs.Places.{may_found, none_found, no_kind_before}
 use Rattle.book.proofs.follow.follows.Goals as goal
 
-pub returns-then-row-ge-KINDS : goal.returns-then-row-ge-KINDS
-returns-then-row-ge-KINDS c = no_kind_before (kind_number c.args.before) (code_of c.args.kind) (omega (arith, c.number-row.ensures))
+pub returns-in_default : goal.returns-in_default
+returns-in_default c = no_kind_before (kind_number c.args.before) (code_of c.args.kind) (rw c.row_behind.ensures at c.in_default.ensures.lookup.3)
 
-pub returns-then-column-ge-KINDS : goal.returns-then-column-ge-KINDS
-returns-then-column-ge-KINDS c = no_kind (kind_number c.args.before) (code_of c.args.kind) (omega (arith, c.code-column.ensures))
+pub returns-in_default-get : goal.returns-in_default-get
+returns-in_default-get c =
+    let row = c.in-Some.ensures.lookup in
+    none_found c.row_behind.result c.in-Some.row.now row.3.0 row.1 c.from.result c.in_default-get.ensures.lookup.3
+    ∙ ap₂ follow_of c.row_behind.ensures (c.from.ensures ∙ c.code.ensures)
 
 pub returns : goal.returns
 returns c =
-    follow_is c.number-row.result c.code-column.result c.if-row-ge-KINDS.false c.if-column-ge-KINDS.false
-    ∙ ap₂ follow_of c.number-row.ensures c.code-column.ensures
+    let row = c.in-Some.ensures.lookup in
+    let cell = c.in-Some-get.ensures.lookup in
+    may_found c.row_behind.result c.in-Some.row.now row.3.0 row.1 c.from.result c.in-Some-get.may.now cell.3.0 cell.1
+    ∙ ap₂ follow_of c.row_behind.ensures (c.from.ensures ∙ c.code.ensures)

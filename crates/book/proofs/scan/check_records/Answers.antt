@@ -5,7 +5,7 @@ use Rattle.std.proofs.lemmas.Result.{err_from_is_err_and}
 use Rattle.book.specs.Blocks.{records}
 use Rattle.book.specs.Refusal.{at_record, holds}
 use Rattle.book.specs.Answer.{outcome}
-use Rattle.book.specs.Tables.{Placed, place_of}
+use Rattle.book.specs.Tables.{Placed, standing_of}
 use Rattle.book.proofs.Scans.{scan_start, scan_end}
 use Rattle.book.proofs.Places.{before_start}
 use Rattle.book.proofs.Marks.{trees_start}
@@ -20,7 +20,7 @@ loop-n-init c =
       record {
         trees_are = trees_start rs;
         names_are = names_start rs;
-        placed = subst (λ bs. Placed bs (place_of c.start.result)) (sym (before_start rs)) c.start.ensures;
+        placed = subst (λ bs. Placed bs (standing_of c.start.result)) (sym (before_start rs)) c.start.ensures;
       },
     )
 

@@ -7,7 +7,7 @@ use Rattle.constants.proofs.Trees.{eval-value, eval-name, eval-other, eval-left,
 use Rattle.constants.proofs.tree.+eval_const_expr.Goals as goal
 
 pub returns-in-Value : goal.returns-in-Value
-returns-in-Value g t c = eval-value _ c.args.book.now c.args.n _ _ _ _ c.in-Value.ensures.value c.from.ensures c.literal_value.ensures
+returns-in-Value g t c = eval-value _ c.args.book.now c.args.n _ _ _ c.in-Value.ensures.value c.literal_value.ensures
 
 pub returns-in-Name : goal.returns-in-Name
 unfolding table_in
@@ -27,5 +27,5 @@ returns-in_err-y-in-Sides g t c =
 
 pub returns-in_ok-y-in-Sides : goal.returns-in_ok-y-in-Sides
 returns-in_ok-y-in-Sides g t c =
-    eval-sides _ c.args.book.now c.args.n _ _ _ _ c.in-Sides.ensures.value c.in-Sides.ensures.earlier _ _ _ c.in_ok-x-in-Sides.ensures c.in_ok-y-in-Sides.ensures
-    c.from-in-Sides.ensures (search rules) (search rules) c.apply.ensures
+    eval-sides _ c.args.book.now c.args.n _ _ _ _ c.in-Sides.ensures.value c.in-Sides.ensures.earlier _ _ c.in_ok-x-in-Sides.ensures c.in_ok-y-in-Sides.ensures
+    (search rules) (search rules) c.apply.ensures

@@ -1,4 +1,5 @@
--- The front of the zeros is what is to be lent; what `lower_counted` and `written` ensure is then all that the law asks.
+-- The front of the zeros is what is to be lent; what `lower_counted` and `front_length` ensure is then all that the law
+-- asks.
 use Prim.Native.Nat.{ℕ, ◌*◌, min}
 use mathlib.Core.List.{List}
 use mathlib.Core.Path.{◌≡◌, ap, ◌∙◌}
@@ -9,12 +10,12 @@ use Rattle.lower.specs.Counters.{counters_after}
 use Rattle.lent.specs.Lent.{bytes_for}
 use Rattle.lent.proofs.Stepping.{Lowers, step_few, stepped, zeros_for}
 use Rattle.lent.proofs.step.lower_step.Goals as goal
-use Rattle.lent.proofs.step.lower_step.Goals.{After-written}
+use Rattle.lent.proofs.step.lower_step.Goals.{After-front_length}
 
 lowers_here :
-    (w : After-written) →
+    (w : After-front_length) →
     let a = w.args in
-    Lowers a.ctx a.book.now a.results.now a.room w.lower_counted-reply.result w.lower_counted-reply.new.results w.lower_counted-reply.new.diagnostics w.written.result
+    Lowers a.ctx a.book.now a.results.now a.room w.lower_counted-reply.result w.lower_counted-reply.new.results w.lower_counted-reply.new.diagnostics w.front_length.result
 lowers_here w =
     let a = w.args in
     let n = w.min.result in
@@ -24,11 +25,11 @@ lowers_here w =
       bytes = record { byte = λ i. (w.type_inv.book i).fits };
       lowers = w.lower_counted-reply.ensures.lowered ∙ ap (λ (d : List ℕ). lower_book a.book.now a.results.now d) zeros;
       counters = w.lower_counted-reply.ensures.ctx_value ∙ ap (λ (d : List ℕ). counters_after a.ctx a.book.now a.results.now d) zeros;
-      count = w.written.ensures;
+      count = w.front_length.ensures;
     }
 
 pub structs-requires : goal.structs-requires
 structs-requires c = step_few (lowers_here c)
 
 pub returns : goal.returns
-returns c = stepped (lowers_here (goal.at.returns c).After-written) _ c.structs.ensures
+returns c = stepped (lowers_here (goal.at.returns c).After-front_length) _ c.structs.ensures

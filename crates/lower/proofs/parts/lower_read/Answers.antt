@@ -6,34 +6,45 @@ use Rattle.lower.proofs.Whole.{whole_read}
 use Rattle.types.proofs.Declared.{names_fit}
 use Rattle.lower.proofs.parts.lower_read.Goals as goal
 
-pub lower_sized-requires-clause-names : goal.lower_sized-requires-clause-names
-lower_sized-requires-clause-names c =
-    constants_below c.args.book.now 84 (fits_below c.args.book.now 84 84 (sym c.fits.ensures ∙ c.if-fits.true))
+pub invariant_of-lower : goal.invariant_of-lower
+invariant_of-lower c = record {
+  few = omega arith;
+  names =
+      constants_below c.args.book.now 84 (fits_below c.args.book.now 84 84 (sym c.fits.ensures ∙ c.if-fits.true));
+  records = (fits_held c.args.book.now 84 84 (sym c.fits.ensures ∙ c.if-fits.true), omega arith);
+}
 
 pub returns-then-fits : goal.returns-then-fits
 returns-then-fits c =
     whole_read c.args.book.now c.laws.ensures 84 c.args.results.now c.args.diagnostics.now
     (fits_below c.args.book.now 84 84 (sym c.fits.ensures ∙ c.if-fits.true))
-    (fits_held c.args.book.now 84 84 (sym c.fits.ensures ∙ c.if-fits.true)) c.lower_sized.ensures
+    (fits_held c.args.book.now 84 84 (sym c.fits.ensures ∙ c.if-fits.true)) c.lower.ensures
 
-pub lower_sized-requires-then-fits-2-clause-names : goal.lower_sized-requires-then-fits-2-clause-names
-lower_sized-requires-then-fits-2-clause-names c =
-    constants_below c.args.book.now 336 (fits_below c.args.book.now 336 336 (sym c.fits-else-fits.ensures
-    ∙ c.if-fits-2.true))
+pub invariant_of-lower-then-fits-2 : goal.invariant_of-lower-then-fits-2
+invariant_of-lower-then-fits-2 c = record {
+  few = omega arith;
+  names =
+      constants_below c.args.book.now 336 (fits_below c.args.book.now 336 336 (sym c.fits-else-fits.ensures
+      ∙ c.if-fits-2.true));
+  records = (fits_held c.args.book.now 336 336 (sym c.fits-else-fits.ensures ∙ c.if-fits-2.true), omega arith);
+}
 
 pub returns-then-fits-2 : goal.returns-then-fits-2
 returns-then-fits-2 c =
     whole_read c.args.book.now c.laws.ensures 336 c.args.results.now c.args.diagnostics.now
     (fits_below c.args.book.now 336 336 (sym c.fits-else-fits.ensures ∙ c.if-fits-2.true))
     (fits_held c.args.book.now 336 336 (sym c.fits-else-fits.ensures ∙ c.if-fits-2.true))
-    c.lower_sized-then-fits-2.ensures
+    c.lower-then-fits-2.ensures
 
-pub lower_sized-requires-else-fits-2-clause-names : goal.lower_sized-requires-else-fits-2-clause-names
-lower_sized-requires-else-fits-2-clause-names c =
-    constants_below c.args.book.now 4096 (names_fit c.args.book.now c.laws.ensures)
+pub invariant_of-lower-else-fits-2 : goal.invariant_of-lower-else-fits-2
+invariant_of-lower-else-fits-2 c = record {
+  few = omega arith;
+  names = constants_below c.args.book.now 4096 (names_fit c.args.book.now c.laws.ensures);
+  records = (c.laws.ensures.few_records, omega arith);
+}
 
 pub returns-else-fits-2 : goal.returns-else-fits-2
 returns-else-fits-2 c =
     whole_read c.args.book.now c.laws.ensures 4096 c.args.results.now c.args.diagnostics.now
     (names_fit c.args.book.now c.laws.ensures) (omega (arith, c.laws.ensures.few_records))
-    c.lower_sized-else-fits-2.ensures
+    c.lower-else-fits-2.ensures

@@ -1,4 +1,5 @@
--- `record::check::sum_pairs` meets its contract. The loop's invariant: a sum of the first 2 k words, below 2^32 for each two.
+-- `record::check::sum_pairs` meets its contract. The loop's invariant: a sum of the first 2 k words, below 2^32 for
+-- each two.
 -- Assumes nothing.
 use Rattle.std.proofs.Common.{◌*◌, ◌+◌, ◌≡◌, arith, rules}
 use Rattle.record.specs.Check.{words}

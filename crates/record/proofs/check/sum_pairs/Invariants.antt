@@ -1,4 +1,5 @@
--- `record::check::sum_pairs` meets its contract. The loop's invariant: a sum of the first 2 k words, below 2^32 for each two.
+-- `record::check::sum_pairs` meets its contract. The loop's invariant: a sum of the first 2 k words, below 2^32 for
+-- each two.
 -- Assumes nothing.
 use Prim.Native.Nat.{◌*◌, ◌≤◌}
 use Rattle.record.specs.Check.{words}

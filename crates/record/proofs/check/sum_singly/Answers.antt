@@ -1,4 +1,5 @@
--- `record::check::sum_singly` meets its contract. The loop's invariant: the sum of the first k words, at most 65,535 for each.
+-- `record::check::sum_singly` meets its contract. The loop's invariant: the sum of the first k words, at most 65,535
+-- for each.
 -- Assumes nothing.
 use Rattle.std.proofs.Common.{◌≡◌, arith, rules}
 use Rattle.record.specs.Check.{words}

@@ -1,4 +1,5 @@
--- `record::check::sum_singly` meets its contract. The loop's invariant: the sum of the first k words, at most 65,535 for each.
+-- `record::check::sum_singly` meets its contract. The loop's invariant: the sum of the first k words, at most 65,535
+-- for each.
 -- Assumes nothing.
 use Prim.Native.Nat.{◌*◌, ◌≤◌}
 use Rattle.record.specs.Check.{words}

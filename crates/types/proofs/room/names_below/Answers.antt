@@ -1,6 +1,6 @@
 -- `types::room::names_below` meets its contract.
 -- Assumes nothing.
-use Rattle.std.proofs.Common.{◌≡◌, ℕ, ap, sym, ◌∙◌}
+use Rattle.std.proofs.Common.{ℕ, ap, sym, ◌∙◌}
 use Rattle.std.specs.Prelude.{not}
 use Rattle.types.specs.Over.{any_over}
 use Rattle.types.proofs.Over.{below_or_over}

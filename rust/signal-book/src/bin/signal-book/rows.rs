@@ -212,7 +212,7 @@ fn of_declaration(kind: u8, sub: u8) -> &'static [Slot] {
     }
 }
 
-/// The row of a kind and sub, if document 01 has them.
+/// The row of a kind and sub, if the format has them.
 pub fn row(kind: u8, sub: u8) -> Option<Row> {
     let (_, word, subs) = KINDS.iter().find(|(number, ..)| *number == kind)?;
     let sub_word = subs.get(usize::from(sub)).copied();

@@ -2,20 +2,16 @@
 -- Assumes nothing.
 use Rattle.std.proofs.Common.{ap, ◌∙◌}
 use Rattle.constants.specs.Steps.{Looked}
-use Rattle.constants.proofs.Walks.{looked-value, looked-other, looked-name, looked-sides}
+use Rattle.constants.proofs.Walks.{looked-leaf, looked-name, looked-sides}
 use Rattle.constants.proofs.works.Works.+names_twice.Goals as goal
 
 pub returns-in-Value-clause-again : goal.returns-in-Value-clause-again
-returns-in-Value-clause-again g t c = ap (λ (x : Looked). x.again) (looked-value c.args.book.now c.args.n c.args.stamp _ _ _ c.in-Value.ensures.value)
+returns-in-Value-clause-again g t c =
+    ap (λ (x : Looked). x.again) (looked-leaf c.args.book.now c.args.n c.args.stamp _ c.take_apart.ensures.value c.in-Value.is _)
 
 pub returns-in-Value-clause-state : goal.returns-in-Value-clause-state
-returns-in-Value-clause-state g t c = ap (λ (x : Looked). x.state) (looked-value c.args.book.now c.args.n c.args.stamp _ _ _ c.in-Value.ensures.value)
-
-pub returns-in-Other-clause-again : goal.returns-in-Other-clause-again
-returns-in-Other-clause-again g t c = ap (λ (x : Looked). x.again) (looked-other c.args.book.now c.args.n c.args.stamp _ c.in-Other.ensures.value)
-
-pub returns-in-Other-clause-state : goal.returns-in-Other-clause-state
-returns-in-Other-clause-state g t c = ap (λ (x : Looked). x.state) (looked-other c.args.book.now c.args.n c.args.stamp _ c.in-Other.ensures.value)
+returns-in-Value-clause-state g t c =
+    ap (λ (x : Looked). x.state) (looked-leaf c.args.book.now c.args.n c.args.stamp _ c.take_apart.ensures.value c.in-Value.is _)
 
 pub returns-in-Name-clause-again : goal.returns-in-Name-clause-again
 returns-in-Name-clause-again g t c = c.see.ensures.again ∙ ap (λ (x : Looked). x.again) (looked-name c.args.book.now c.args.n c.args.stamp _ _ c.in-Name.ensures.value)

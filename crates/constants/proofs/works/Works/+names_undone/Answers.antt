@@ -1,14 +1,11 @@
 -- `constants::works::Works::names_undone` meets its contract, by the record at the top of the expression.
 -- Assumes nothing.
 use Rattle.std.proofs.Common.{◌∙◌}
-use Rattle.constants.proofs.Walks.{undone-value, undone-other, undone-name, undone-left, undone-right}
+use Rattle.constants.proofs.Walks.{undone-leaf, undone-name, undone-left, undone-right}
 use Rattle.constants.proofs.works.Works.+names_undone.Goals as goal
 
 pub returns-in-Value : goal.returns-in-Value
-returns-in-Value g t c = undone-value c.args.book.now c.args.n _ _ _ c.in-Value.ensures.value
-
-pub returns-in-Other : goal.returns-in-Other
-returns-in-Other g t c = undone-other c.args.book.now c.args.n _ c.in-Other.ensures.value
+returns-in-Value g t c = undone-leaf c.args.book.now c.args.n _ _ c.take_apart.ensures.value c.in-Value.is
 
 pub returns-in-Name : goal.returns-in-Name
 returns-in-Name g t c = c.is_undone.ensures ∙ undone-name c.args.book.now c.args.n _ _ c.in-Name.ensures.value

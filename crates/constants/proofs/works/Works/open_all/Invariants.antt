@@ -6,5 +6,5 @@ use Rattle.constants.proofs.works.Works.open_all.Given as goal
 
 abbrev pub invariant-loop-n : goal.invariant-loop-n
 invariant-loop-n g l =
-    opened_all l.book (drop l.n-index l.declarations) (state_of l.self)
-    ≡ opened_all l.book l.declarations (state_of l.initial.self)
+    opened_all g.row.R l.book (drop l.n-index l.declarations) (state_of l.self)
+    ≡ opened_all g.row.R l.book l.declarations (state_of l.initial.self)

@@ -1,7 +1,0 @@
--- `book::follow::Place::start` meets its contract: with no record before, all that a place says is that there is none.
--- Assumes nothing.
-use Rattle.book.proofs.Places.{placed_start}
-use Rattle.book.proofs.follow.Place.start.Goals as goal
-
-pub returns : goal.returns
-returns c = placed_start
