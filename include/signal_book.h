@@ -49,7 +49,7 @@ enum {
      length 0, the reply never. Book and slices can have any alignment; reply has that of uint64_t, 8, as in every C program.
    - No two of book, results, diagnostics and reply have a byte in common.
    - While the call is under way nobody writes to the book, and nobody else touches the slices or the reply.
-   - There is stack: a call takes at most 181,000 bytes (measured, tools/stack), so 256 KiB is plenty. Mind threads that are given less.
+   - There is stack: a call takes at most 158,000 bytes (measured, tools/stack), so 256 KiB is plenty. Mind threads that are given less.
 
    Nothing is kept: no pointer, no state; nothing is allocated, and nothing else is read or written. So it may be called from several threads at
    once, each with slices and a reply of its own; they may share a book. */

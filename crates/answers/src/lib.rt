@@ -5,7 +5,6 @@
 ghost use Rattle.std.specs.Prelude.{◌≡◌, IfOk, length};
 ghost use Rattle.std.specs.Io.KnownBytes.{Consumes};
 
-use std::alloc::Global;
 use std::io;
 use std::io::{ErrorKind, Read};
 
@@ -14,7 +13,7 @@ use std::io::{ErrorKind, Read};
 pub enum Stop {
     /// It ends too early, or what comes next has not its form.
     Broken,
-    /// Reading or printing failed, or there was no memory.
+    /// Reading or printing failed.
     Failed(io::Error),
 }
 
@@ -32,13 +31,19 @@ impl From<io::Error> for Stop {
     }
 }
 
-/// The next n bytes. Where there are fewer, the error has the kind `UnexpectedEof`.
-pub fn read_part<R: Read>(alloc: Global, reader: &mut R, n: usize) -> io::Result<Vec<u8>>
-    ensures whole { IfOk result (λ part. length part.items ≡ n) }
-    ensures bytes { IfOk result (λ part. Consumes (R.remaining reader.old) (R.remaining reader.new) part.items) }
+/// The next n bytes, read into the front of `room`. Where there are fewer, or no room for them, the list is broken.
+pub fn read_part<'a, R: Read>(
+    reader: &mut R,
+    room: &'a mut [u8],
+    n: usize,
+) -> Result<&'a [u8], Stop>
+    ensures whole { IfOk result (λ part. length part.now ≡ n) }
+    ensures bytes { IfOk result (λ part. Consumes (R.remaining reader.old) (R.remaining reader.new) part.now) }
 {
-    let mut part = vec![in alloc; 0u8; n]?;
-    reader.read_exact(&mut part)?;
+    let Some(part) = room.get_mut(..n) else {
+        return Err(Stop::Broken);
+    };
+    reader.read_exact(part)?;
     Ok(part)
 }
 
@@ -49,11 +54,12 @@ mod tests {
 
     #[test]
     fn parts(rt: HostRuntime) -> Result<(), Fail> {
+        let mut room = [0u8; 2];
         let mut reader = [1u8, 2, 3].as_slice();
-        let part = read_part(rt.alloc(), &mut reader, 2)?;
-        assert_eq!(rt; part.as_slice(), [1u8, 2].as_slice());
-        let short = read_part(rt.alloc(), &mut reader, 2);
-        assert!(rt; matches!(short.map_err(Stop::from), Err(Stop::Broken)));
+        let part = read_part(&mut reader, &mut room, 2)?;
+        assert_eq!(rt; part, [1u8, 2].as_slice());
+        let short = read_part(&mut reader, &mut room, 2);
+        assert!(rt; matches!(short, Err(Stop::Broken)));
         Ok(())
     }
 }

@@ -13,12 +13,12 @@ use types::lowering::Lowering;
 /// Lowers the items of a declaration: those behind it, up to the next declaration. By `enumerate`, since each item is
 /// lowered with what stands behind it; `split_first` in a loop would need a measure, and be no plainer.
 #[tactic(auto, using(crate::proofs::Behind::along))]
-fn lower_items<const N: usize>(
-    lowering: &mut Lowering<'_, '_, '_, '_, N>,
+fn lower_items<const N: usize, const R: usize>(
+    lowering: &mut Lowering<'_, '_, '_, '_, N, R>,
     behind: &[u16],
     delta: bool,
 ) -> Result<(), Refusal>
-    ensures { Steps N lowering.old lowering.new result (code.lower_items delta behind.now) }
+    ensures { Steps N R lowering.old lowering.new result (code.lower_items delta behind.now) }
 {
     for (at, m) in behind.iter().enumerate() {
         match lowering.book.kind(*m) {
@@ -33,12 +33,12 @@ fn lower_items<const N: usize>(
 }
 
 /// Begins the message or union at record `n`: its own record, of this kind.
-fn begin_body<const N: usize>(
-    lowering: &mut Lowering<'_, '_, '_, '_, N>,
+fn begin_body<const N: usize, const R: usize>(
+    lowering: &mut Lowering<'_, '_, '_, '_, N, R>,
     kind: Kind,
     n: u16,
 ) -> Result<u16, Refusal>
-    ensures { Steps N lowering.old lowering.new result (code.begin_body (code_of kind) n) }
+    ensures { Steps N R lowering.old lowering.new result (code.begin_body (code_of kind) n) }
 {
     lowering.place = n;
     let r = lowering.book.record(n);
@@ -50,12 +50,12 @@ fn begin_body<const N: usize>(
 /// message say once for all its fields whether delta is around them, and that is handed down: as a field of the
 /// lowering it would have to be set and reset around each declaration.
 #[tactic(auto, unfolding(crate::specs::Code::lower_body))]
-fn lower_message<const N: usize>(
-    lowering: &mut Lowering<'_, '_, '_, '_, N>,
+fn lower_message<const N: usize, const R: usize>(
+    lowering: &mut Lowering<'_, '_, '_, '_, N, R>,
     n: u16,
     behind: &[u16],
 ) -> Result<(), Refusal>
-    ensures { Steps N lowering.old lowering.new result (code.lower_message n behind.now) }
+    ensures { Steps N R lowering.old lowering.new result (code.lower_message n behind.now) }
 {
     let delta = annotations_of(lowering.book, behind).delta;
     begin_body(lowering, Kind::LoweredMessage, n)?;
@@ -64,12 +64,12 @@ fn lower_message<const N: usize>(
 
 /// Lowers the union at record `n`: its own record, then its items. No delta applies to its fields.
 #[tactic(auto, unfolding(crate::specs::Code::lower_body))]
-fn lower_union<const N: usize>(
-    lowering: &mut Lowering<'_, '_, '_, '_, N>,
+fn lower_union<const N: usize, const R: usize>(
+    lowering: &mut Lowering<'_, '_, '_, '_, N, R>,
     n: u16,
     behind: &[u16],
 ) -> Result<(), Refusal>
-    ensures { Steps N lowering.old lowering.new result (code.lower_union n behind.now) }
+    ensures { Steps N R lowering.old lowering.new result (code.lower_union n behind.now) }
 {
     begin_body(lowering, Kind::LoweredUnion, n)?;
     lower_items(lowering, behind, false)
@@ -77,11 +77,11 @@ fn lower_union<const N: usize>(
 
 /// Lowers the newtype at record `n`: its type, then its own record.
 #[tactic(auto, unfolding(crate::specs::Code::lower_newtype))]
-fn lower_newtype<const N: usize>(
-    lowering: &mut Lowering<'_, '_, '_, '_, N>,
+fn lower_newtype<const N: usize, const R: usize>(
+    lowering: &mut Lowering<'_, '_, '_, '_, N, R>,
     n: u16,
 ) -> Result<(), Refusal>
-    ensures { Steps N lowering.old lowering.new result (code.lower_newtype n) }
+    ensures { Steps N R lowering.old lowering.new result (code.lower_newtype n) }
 {
     lowering.place = n;
     let r = lowering.book.record(n);
@@ -91,11 +91,11 @@ fn lower_newtype<const N: usize>(
 
 /// Lowers the messages, unions and newtypes of a book, in its order, which stand among these declarations and items.
 #[tactic(auto, using(crate::proofs::Behind::along))]
-pub fn lower_bodies<const N: usize>(
-    lowering: &mut Lowering<'_, '_, '_, '_, N>,
+pub fn lower_bodies<const N: usize, const R: usize>(
+    lowering: &mut Lowering<'_, '_, '_, '_, N, R>,
     outside: &[u16],
 ) -> Result<(), Refusal>
-    ensures { Steps N lowering.old lowering.new result (code.lower_bodies outside.now) }
+    ensures { Steps N R lowering.old lowering.new result (code.lower_bodies outside.now) }
 {
     for (at, n) in outside.iter().enumerate() {
         match lowering.book.kind(*n) {

@@ -61,11 +61,11 @@ fn lower_where_operand(r: &Record) -> Record
 
 /// Writes the constraint or operand at record `n`, children first; the number of its root.
 #[tactic(auto, using(crate::proofs::Wherever::steps, std::proofs::lemmas::Bool::Decides::nat_tests))]
-pub(crate) fn lower_where_expr<const N: usize>(
-    lowering: &mut Lowering<'_, '_, '_, '_, N>,
+pub(crate) fn lower_where_expr<const N: usize, const R: usize>(
+    lowering: &mut Lowering<'_, '_, '_, '_, N, R>,
     n: u16,
 ) -> Result<u16, Refusal>
-    ensures { Steps N lowering.old lowering.new result (code.lower_where_expr n) }
+    ensures { Steps N R lowering.old lowering.new result (code.lower_where_expr n) }
 {
     let r = lowering.book.record(n);
     match r.kind() {
@@ -93,11 +93,11 @@ pub(crate) fn lower_where_expr<const N: usize>(
 }
 
 /// Writes the constraint of a field, which may have none; the number of its root.
-pub(crate) fn lower_constraint<const N: usize>(
-    lowering: &mut Lowering<'_, '_, '_, '_, N>,
+pub(crate) fn lower_constraint<const N: usize, const R: usize>(
+    lowering: &mut Lowering<'_, '_, '_, '_, N, R>,
     constraint: Option<u16>,
 ) -> Result<Option<u16>, Refusal>
-    ensures { Steps N lowering.old lowering.new result (code.lower_constraint constraint) }
+    ensures { Steps N R lowering.old lowering.new result (code.lower_constraint constraint) }
 {
     match constraint {
         Some(n) => Ok(Some(lower_where_expr(lowering, n)?)),

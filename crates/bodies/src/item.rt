@@ -46,11 +46,11 @@ pub(crate) fn carried(kind: Kind, a: u16, b: u16, c: u16, r: &Record) -> Record
 
 /// Writes one more result, whatever its number.
 #[tactic(auto, unfolding(crate::specs::Code::write))]
-pub(crate) fn write<const N: usize>(
-    lowering: &mut Lowering<'_, '_, '_, '_, N>,
+pub(crate) fn write<const N: usize, const R: usize>(
+    lowering: &mut Lowering<'_, '_, '_, '_, N, R>,
     r: &Record,
 ) -> Result<(), Refusal>
-    ensures { Steps N lowering.old lowering.new result (code.write r.now) }
+    ensures { Steps N R lowering.old lowering.new result (code.write r.now) }
 {
     lowering.emit(r)?;
     Ok(())
@@ -58,15 +58,15 @@ pub(crate) fn write<const N: usize>(
 
 // The encoding of a field whose type has its root among the results, under a message's delta.
 #[tactic(auto, unfolding(crate::specs::Code::field_encoding))]
-fn encoding_of<const N: usize>(
-    lowering: &Lowering<'_, '_, '_, '_, N>,
+fn encoding_of<const N: usize, const R: usize>(
+    lowering: &Lowering<'_, '_, '_, '_, N, R>,
     behind: &[u16],
     delta: bool,
     root: u16,
 ) -> FieldEncoding
     ensures { field_encoding_of result
         ≡ code.field_encoding delta root (code.seen_behind lowering.now.book.now behind.now no_annotations)
-        (state_of N lowering.now) }
+        (state_of N R lowering.now) }
 {
     let seen = annotations_of(lowering.book, behind);
     seen.encoding().under_delta(delta, lowering.result_at(root))
@@ -74,13 +74,13 @@ fn encoding_of<const N: usize>(
 
 /// Lowers the field at record `n`: its type, its constraint, its own record, its encoding.
 #[tactic(auto, unfolding(crate::specs::Code::lower_field))]
-pub(crate) fn lower_field<const N: usize>(
-    lowering: &mut Lowering<'_, '_, '_, '_, N>,
+pub(crate) fn lower_field<const N: usize, const R: usize>(
+    lowering: &mut Lowering<'_, '_, '_, '_, N, R>,
     n: u16,
     behind: &[u16],
     delta: bool,
 ) -> Result<(), Refusal>
-    ensures { Steps N lowering.old lowering.new result (code.lower_field delta n behind.now) }
+    ensures { Steps N R lowering.old lowering.new result (code.lower_field delta n behind.now) }
 {
     lowering.place = n;
     let r = lowering.book.record(n);
@@ -121,11 +121,11 @@ fn first_string(book: &Book<'_>, behind: &[u16], key: Key) -> Option<u16>
 
 // The type of a tombstone, which may have none. `lower_constraint` does the same with another step: one function for
 // both, or `map` and `transpose`, would take the step as a closure over the lowering, with a contract of its own.
-fn optional_type<const N: usize>(
-    lowering: &mut Lowering<'_, '_, '_, '_, N>,
+fn optional_type<const N: usize, const R: usize>(
+    lowering: &mut Lowering<'_, '_, '_, '_, N, R>,
     type_expr: Option<u16>,
 ) -> Result<Option<u16>, Refusal>
-    ensures { Steps N lowering.old lowering.new result (code.optional_type type_expr) }
+    ensures { Steps N R lowering.old lowering.new result (code.optional_type type_expr) }
 {
     match type_expr {
         Some(n) => Ok(Some(lowering.resolve_type(n)?)),
@@ -135,12 +135,12 @@ fn optional_type<const N: usize>(
 
 /// Lowers the tombstone at record `n`.
 #[tactic(auto, unfolding(crate::specs::Code::lower_tombstone))]
-pub(crate) fn lower_tombstone<const N: usize>(
-    lowering: &mut Lowering<'_, '_, '_, '_, N>,
+pub(crate) fn lower_tombstone<const N: usize, const R: usize>(
+    lowering: &mut Lowering<'_, '_, '_, '_, N, R>,
     n: u16,
     behind: &[u16],
 ) -> Result<(), Refusal>
-    ensures { Steps N lowering.old lowering.new result (code.lower_tombstone n behind.now) }
+    ensures { Steps N R lowering.old lowering.new result (code.lower_tombstone n behind.now) }
 {
     lowering.place = n;
     let r = lowering.book.record(n);
@@ -161,11 +161,11 @@ pub(crate) fn lower_tombstone<const N: usize>(
 
 /// Lowers the variant at record `n`.
 #[tactic(auto, unfolding(crate::specs::Code::lower_variant))]
-pub(crate) fn lower_variant<const N: usize>(
-    lowering: &mut Lowering<'_, '_, '_, '_, N>,
+pub(crate) fn lower_variant<const N: usize, const R: usize>(
+    lowering: &mut Lowering<'_, '_, '_, '_, N, R>,
     n: u16,
 ) -> Result<(), Refusal>
-    ensures { Steps N lowering.old lowering.new result (code.lower_variant n) }
+    ensures { Steps N R lowering.old lowering.new result (code.lower_variant n) }
 {
     lowering.place = n;
     let r = lowering.book.record(n);

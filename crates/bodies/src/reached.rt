@@ -30,12 +30,12 @@ fn constant_record(r: &Record, root: u16, value: Option<i64>) -> Record
 
 // Tells of a constant without a value, with the span of its expression.
 #[tactic(auto, unfolding(crate::specs::Code::tell_unless))]
-fn tell_unless<const N: usize>(
-    lowering: &mut Lowering<'_, '_, '_, '_, N>,
+fn tell_unless<const N: usize, const R: usize>(
+    lowering: &mut Lowering<'_, '_, '_, '_, N, R>,
     value: Option<i64>,
     r: &Record,
 ) -> Result<(), Refusal>
-    ensures { Steps N lowering.old lowering.new result (code.tell_unless value r.now) }
+    ensures { Steps N R lowering.old lowering.new result (code.tell_unless value r.now) }
 {
     if value.is_some() {
         return Ok(());
@@ -47,11 +47,11 @@ fn tell_unless<const N: usize>(
 
 // Lowers a reached constant: its type, message 5 if it has no value, its own record.
 #[tactic(auto, unfolding(crate::specs::Code::lower_constant))]
-fn lower_constant<const N: usize>(
-    lowering: &mut Lowering<'_, '_, '_, '_, N>,
+fn lower_constant<const N: usize, const R: usize>(
+    lowering: &mut Lowering<'_, '_, '_, '_, N, R>,
     constant: Settled,
 ) -> Result<(), Refusal>
-    ensures { Steps N lowering.old lowering.new result (code.lower_constant constant) }
+    ensures { Steps N R lowering.old lowering.new result (code.lower_constant constant) }
 {
     lowering.place = constant.place;
     let r = lowering.book.record(constant.place);
@@ -62,11 +62,11 @@ fn lower_constant<const N: usize>(
 
 /// Lowers the reached constants of a book, in their order.
 #[tactic(auto, using(crate::proofs::Behind::settled))]
-pub fn lower_constants<const N: usize>(
-    lowering: &mut Lowering<'_, '_, '_, '_, N>,
+pub fn lower_constants<const N: usize, const R: usize>(
+    lowering: &mut Lowering<'_, '_, '_, '_, N, R>,
     settled: &[Settled],
 ) -> Result<(), Refusal>
-    ensures { Steps N lowering.old lowering.new result (code.lower_constants settled.now) }
+    ensures { Steps N R lowering.old lowering.new result (code.lower_constants settled.now) }
 {
     for constant in settled {
         lower_constant(lowering, *constant)?;

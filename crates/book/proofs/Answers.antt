@@ -12,21 +12,26 @@ use lib.Dec.{eqb, leb, ltb}
 use lib.ListN.{length, take, drop, get_or}
 use Rattle.std.proofs.lemmas.List.{get_or-drop, get_or-take, get_or_past}
 use borrow.Author.Tests.{eqb-false, ltb-false, leb-true, leb-false, eqb-true, eq-eqb, not-false}
+use Rattle.record.specs.declared.refusal.Cause as code
+use Rattle.record.specs.declared.refusal.Cause.TheVariants.{BookLength, Check, Block, Shape, Child, Follow, Name, Depth, TooDeep, Full}
 use Rattle.record.specs.declared.refusal.Refusal as answered
 use Rattle.book.specs.Lists.{any, find, up_to}
 use Rattle.record.specs.Layout.{record_at, decode_record}
 use Rattle.record.proofs.Pads.{same_record}
 use Rattle.record.specs.Bytes.{little_endian}
 use Rattle.book.specs.Blocks as of
-use Rattle.book.specs.Blocks.{length_fault, blocks, records_in, count_holds, byte3_holds, rest_holds, block_fault, record_count, wildcards}
+use Rattle.book.specs.Blocks.{length_fault, blocks, records_in, count_holds, byte3_holds, rest_holds, block_fault, record_count, records, wildcards}
 use Rattle.book.specs.Refusal.{Cause, shape, child, follow, name, depth, check}
 use Rattle.book.specs.Refusal.{Refusal, book_length, block, number, at, at_block, at_record, faulty, holds, in_order, first_refusal}
 use Rattle.record.specs.Refused.{number_of}
-use Rattle.book.specs.Answer.{named, refused_by, outcome, answer_by, read_book, refusal_word}
+use Rattle.book.specs.declared.Reading.{Reading}
+use Rattle.book.specs.declared.Reading.TheVariants.{Accepted, Refused}
+use Rattle.book.specs.Answer.{Answer, accepted, refused, named, refused_by, outcome, answer_by, read_book, reading_of, refusal_word, ReadingTells}
 use Rattle.book.specs.Outline.{Book, read}
-use Rattle.book.specs.Accepted.{blank, book_or, book_of}
+use Rattle.book.specs.Accepted.{blank, book_or, book_of, book_in, result_of, ReadsAsAnswered}
 use Rattle.book.specs.Tables.{Counted}
 use Rattle.book.proofs.First.{find-append}
+use Rattle.book.proofs.Records.{records-length}
 use Rattle.book.proofs.Members.{Found, found}
 use Rattle.book.proofs.Trees.{both_not, both_so}
 use Rattle.book.proofs.Scans.{find_hit, find_miss, scan_none}
@@ -245,3 +250,68 @@ module _ (book : List ℕ) where
       go (some x) is =
           let same : e ≡ refused_by x = cc in
           ap (λ (e : answered.Refusal). 65536 * number_of e.cause + e.place) same ∙ ap (λ n. 65536 * n + x.place) (number_named x.cause)
+
+-- what is read is what is answered
+pub reads_as_answered : ReadsAsAnswered
+unfolding book_of book_or read_book answer_by result_of book_in read records
+reads_as_answered bytes = go (first_refusal bytes)
+  where
+    go : (o : Option Refusal) → book_or o bytes ≡ result_of (answer_by o bytes) bytes
+    go none = refl
+    go (some x) = refl
+
+ok_is : {j k : Book} → ◌≡◌ {A = Result Book answered.Refusal} (Ok j) (Ok k) → j ≡ k
+ok_is is = cc
+
+-- the answer as the code hands it out
+module _ (book : List ℕ) where
+  pub reading_read : {k : Book} → Ok k ≡ book_of book → Accepted (length k.records) k.wildcards ≡ reading_of (read_book book)
+  unfolding book_of book_or read_book answer_by reading_of read
+  reading_read {k} is = go (first_refusal book) is
+    where
+      go : (o : Option Refusal) → Ok k ≡ book_or o book → Accepted (length k.records) k.wildcards ≡ reading_of (answer_by o book)
+      go none is = ap (λ (k : Book). Accepted (length k.records) k.wildcards) (ok_is is) ∙ ap (λ n. Accepted n (wildcards book)) (records-length book)
+      go (some x) is = absurd (ok_no_book (sym is))
+
+  pub reading_refused : {e : answered.Refusal} → Err e ≡ book_of book → Refused e.cause e.place ≡ reading_of (read_book book)
+  unfolding book_of book_or read_book answer_by reading_of
+  reading_refused {e} is = go (first_refusal book) is
+    where
+      go : (o : Option Refusal) → Err e ≡ book_or o book → Refused e.cause e.place ≡ reading_of (answer_by o book)
+      go none is = absurd (ok_no_book is)
+      go (some x) is = let same : e ≡ refused_by x = cc in ap (λ (e : answered.Refusal). Refused e.cause e.place) same
+
+-- what is handed out tells the answer; reading finds neither of the last two causes
+row_of_cause : code.Cause → Cause
+row_of_cause BookLength = book_length
+row_of_cause Check = check
+row_of_cause Block = block
+row_of_cause Shape = shape
+row_of_cause Child = child
+row_of_cause Follow = follow
+row_of_cause Name = name
+row_of_cause Depth = depth
+row_of_cause TooDeep = depth
+row_of_cause Full = depth
+
+answer_of : Reading → Answer
+answer_of (Accepted n w) = accepted n w
+answer_of (Refused c p) = refused (at (row_of_cause c) p)
+
+answer_is : (a : Answer) → answer_of (reading_of a) ≡ a
+unfolding answer_of reading_of row_of_cause
+answer_is (accepted n w) = refl
+answer_is (refused x) = ap (λ c. refused (at c x.place)) (row_is x.cause)
+  where
+    row_is : (c : Cause) → row_of_cause (named c) ≡ c
+    row_is book_length = refl
+    row_is check = refl
+    row_is block = refl
+    row_is shape = refl
+    row_is child = refl
+    row_is follow = refl
+    row_is name = refl
+    row_is depth = refl
+
+pub reading_tells : ReadingTells
+reading_tells a b same = sym (answer_is a) ∙ ap answer_of same ∙ answer_is b

@@ -1,12 +1,12 @@
 -- What the accessors of a book that is read promise: each record, how many there are, and that children are earlier
 -- records.
 -- Assumes nothing.
-use Rattle.std.specs.Prelude.{ℕ, ◌≤◌, ◌<◌, Bool, true, false, not, ◌&&◌, ◌||◌, List, [], ◌∷◌, ◌++◌, ◌≡◌, eqb, leb, length, Ok}
-use Rattle.std.proofs.Common.{refl, sym, ◌∙◌, subst, arith}
+use Rattle.std.specs.Prelude.{ℕ, ◌≤◌, ◌<◌, Bool, true, false, not, ◌&&◌, ◌||◌, List, [], ◌∷◌, ◌++◌, map, ◌≡◌, eqb, leb, length, Ok}
+use Rattle.std.proofs.Common.{refl, sym, ◌∙◌, ap, subst, arith}
 use Rattle.std.proofs.Math.Option.{Option, some, none}
 use mathlib.Core.Bool.{false≢true}
 use mathlib.Core.List.{Memᴰ}
-use Rattle.std.proofs.lemmas.List.{get_or_past}
+use Rattle.std.proofs.lemmas.List.{get_or_past, length-map}
 use borrow.Author.Tests.{leb-true, leb-false, eqb-true, eq-eqb, not-false}
 use Rattle.record.specs.declared.Record.{Record}
 use Rattle.record.specs.declared.kind.Kind.{Kind}
@@ -14,15 +14,17 @@ use Rattle.record.specs.declared.kind.Kind.TheVariants.{Generic, OverOne, OverTw
 use Rattle.record.specs.Kind.{code_of, kind_from}
 use Rattle.record.specs.Layout.{record_at}
 use Rattle.record.proofs.Codes.{kind_is}
-use Rattle.book.specs.Lists.{All, any, find}
+use Rattle.book.specs.Lists.{All, any, find, up_to}
 use Rattle.book.specs.Shape as shapes
 use Rattle.book.specs.Shape.{Row, Child, table, is_row, row_of, fits, well_shaped, child_in, children_by, children, child, child?, unused, flag, bits, name, name?, string, string?, ordinal, free}
 use Rattle.book.specs.Blocks.{record_count, records}
 use Rattle.book.specs.Faults.{record_of}
-use Rattle.book.specs.Outline.{read, ◌!◌}
+use Rattle.book.specs.Outline.{Book, read, ◌!◌}
 use Rattle.book.specs.Trees.{IsChild, IsRecord, Readable}
-use Rattle.book.specs.Accepted.{blank, Kept, IsRead, Earlier}
-use Rattle.book.proofs.Members.{Found, found, first_mem, of_all, all_of}
+use Rattle.book.specs.Accepted.{blank, book_in, Kept, IsRead, Earlier}
+use Rattle.book.proofs.Lists.{from-length}
+use Rattle.book.proofs.Members.{Found, found, first_mem, of_all, all_of, at_from}
+use Rattle.book.proofs.Records.{at_map}
 use Rattle.book.proofs.Trees.{both_so, none_passes}
 
 -- both parts of a list have what the whole has
@@ -225,14 +227,6 @@ module _ (bytes : List ℕ) (readable : Readable bytes) where
         well_formed = readable.well_formed;
       }
 
-  pub counted : (count : ℕ) → count ≡ record_count bytes → count ≡ length (read bytes).records
-  unfolding read
-  counted count is = is ∙ sym readable.counted
-
-  record_there : (n : ℕ) → n < record_count bytes → record_at bytes n ≡ read bytes ! n
-  unfolding read
-  record_there n less = sym (readable.in_range n less).there
-
   record_absent : (n : ℕ) → record_count bytes ≤ n → blank ≡ read bytes ! n
   unfolding read record_of
   record_absent n past = sym (get_or_past (records bytes) n blank (omega (arith, readable.counted)))
@@ -250,14 +244,33 @@ module _ (bytes : List ℕ) (readable : Readable bytes) where
           are_earlier n r h.shaped
           (all_of (λ (c : Child). c.number < n) (children r) (λ c m. (of_all (IsChild (records bytes) n) (children r) h.children_are c m).earlier))
 
--- the record that stands at a place, if one does, and none past the last
-module _ {bytes : List ℕ} {count : ℕ} {wildcards : Bool} (kept : Kept bytes count wildcards) (n : ℕ) where
-  pub record_is : record_at bytes n ≡ read bytes ! n
-  record_is = go (leb (record_count bytes) n) refl
-    where
-      go : (b : Bool) → leb (record_count bytes) n ≡ b → record_at bytes n ≡ read bytes ! n
-      go true t = kept.absent n (leb-true _ _ t) ∙ record_absent bytes kept.readable n (leb-true _ _ t)
-      go false t = record_there bytes kept.readable n (leb-false _ _ t)
+-- how many records are kept
+pub counted : (bytes : List ℕ) (count : ℕ) (wildcards : Bool) → count ≡ length (book_in bytes count wildcards).records
+unfolding book_in
+counted bytes count wildcards = sym (length-map (up_to count) (record_at bytes) ∙ from-length 0 count)
 
-  pub record_earlier : Earlier n (record_at bytes n)
-  record_earlier = subst (Earlier n) (sym record_is) (earlier bytes kept.readable n)
+-- the record that stands at a place, if one does, and none past the last
+module _ {bytes : List ℕ} {count : ℕ} {wildcards : Bool} (kept : Kept bytes count wildcards) where
+  pub kept_is_read : IsRead (book_in bytes count wildcards)
+  kept_is_read = subst IsRead (sym kept.same) (is_read kept.whole kept.readable)
+
+  module _ (n : ℕ) where
+    pub record_is : record_at bytes n ≡ book_in bytes count wildcards ! n
+    unfolding book_in record_of
+    record_is = go (leb count n) refl
+      where
+        many : length (up_to count) ≡ count
+        many = from-length 0 count
+
+        go : (b : Bool) → leb count n ≡ b → record_at bytes n ≡ book_in bytes count wildcards ! n
+        go true t =
+            kept.absent n (leb-true _ _ t)
+            ∙ sym (get_or_past (map (record_at bytes) (up_to count)) n blank (omega (arith, length-map (up_to count) (record_at bytes), many, leb-true _ _ t)))
+        go false t =
+            let less : n < count = leb-false _ _ t in
+            sym (at_map (record_at bytes) (up_to count) n 0 blank (omega (arith, many)) ∙ ap (record_at bytes) (at_from 0 count n 0 less ∙ omega arith))
+
+    pub record_earlier : Earlier n (record_at bytes n)
+    record_earlier =
+        subst (Earlier n) (sym record_is)
+        (subst (λ (b : Book). Earlier n (b ! n)) (sym kept.same) (earlier kept.whole kept.readable n))

@@ -14,6 +14,7 @@ pub mod Declares
 pub mod Answers
 pub mod Accepted
 pub mod Below
+pub mod Cuts
 pub mod Noting
 pub mod Looks
 pub mod Counts

@@ -1,10 +1,12 @@
 -- What reading answers, in the terms of the definitions.
 -- Assumes nothing.
-use Rattle.std.specs.Prelude.{ℕ, ◌+◌, ◌*◌, Bool, List, Result, Ok, Err}
+use Rattle.std.specs.Prelude.{ℕ, ◌+◌, ◌*◌, Bool, List, ◌≡◌, Result, Ok, Err}
 use Rattle.std.proofs.Math.Option.{Option, some, none}
 use Rattle.record.specs.declared.refusal.Cause as code
 use Rattle.record.specs.declared.refusal.Cause.TheVariants.{BookLength, Check, Block, Shape, Child, Follow, Name, Depth}
 use Rattle.record.specs.declared.refusal.Refusal as answered
+use Rattle.book.specs.declared.Reading.{Reading}
+use Rattle.book.specs.declared.Reading.TheVariants.{Accepted, Refused}
 use Rattle.book.specs.Blocks.{record_count, wildcards}
 use Rattle.book.specs.Refusal.{Cause, book_length, check, block, shape, child, follow, name, depth}
 use Rattle.book.specs.Refusal.{Refusal, number, first_refusal}
@@ -43,7 +45,16 @@ answer_by (some x) book = refused x
 unfoldable pub read_book : List ℕ → Answer
 read_book book = answer_by (first_refusal book) book
 
+-- the answer, as the code hands it out
+unfoldable pub reading_of : Answer → Reading
+reading_of (accepted n w) = Accepted n w
+reading_of (refused x) = Refused (named x.cause) x.place
+
 -- the answer as one number: 0, or the number of the cause times 65,536, and the place
 unfoldable pub refusal_word : Answer → ℕ
 refusal_word (accepted n w) = 0
 refusal_word (refused x) = 65536 * number x.cause + x.place
+
+-- Claim. What the code hands out tells the answer
+abbrev pub ReadingTells : Type 0
+ReadingTells = (a b : Answer) → reading_of a ≡ reading_of b → a ≡ b

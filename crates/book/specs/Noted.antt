@@ -1,6 +1,6 @@
 -- The records of a book that are no part of a tree, by their numbers: what is looked for again and again is noted once.
 -- Assumes nothing.
-use Rattle.std.specs.Prelude.{ℕ, Bool, false, List, ltb, Result, Ok, Err}
+use Rattle.std.specs.Prelude.{ℕ, Bool, false, List, [], ltb, Result, Ok, Err}
 use Rattle.record.specs.Kind.{is_declaration_kind, is_item_kind}
 use Rattle.record.specs.declared.Record.{Record}
 use Rattle.record.specs.declared.kind.Kind.{Kind}
@@ -16,6 +16,10 @@ is_outside r = ltb 16 r.kind
 pub record Noted : Type 0 where
   pub declarations : List ℕ
   pub outside : List ℕ
+
+-- none
+abbrev pub nothing_noted : Noted
+nothing_noted = record { declarations = []; outside = [] }
 
 -- those of a book
 abbrev pub noted_of : Book → Noted

@@ -2,11 +2,18 @@
 //! kinds.
 
 ghost use Rattle.std.specs.Prelude.{◌≡◌, ◌||◌, cond, ◌+◌, ◌≤◌, ◌<◌, [], ◌∷◌, ◌++◌, length, take};
-ghost use Rattle.book.specs.Noted.{noted_of, declares, is_item};
+ghost use Rattle.book.specs.Noted.{noted_of, nothing_noted, declares, is_item};
 
 use crate::readable::Book;
 use record::kind::{Kind, UnknownKind};
 use std::marker::Model;
+
+/// A book that has at most `R` records.
+#[derive(Clone, Copy)]
+pub struct FewRecords<'b, const R: usize> {
+    pub book: &'b Book<'b>,
+    ghost few: { length book.now.records ≤ R },
+}
 
 /// Two lists of record numbers, each in book order. A book has at most `R` records. They are arrays with their lengths:
 /// vectors of a fixed capacity were tried, and an ordinary book of 21 records took 141 instructions more.
@@ -66,27 +73,45 @@ fn note(list: &mut [u16], count: usize, n: u16, found: bool) -> usize
 }
 
 impl<const R: usize> Outline<R> {
-    /// The outline of a book.
-    pub fn of(book: &Book<'_>) -> Outline<R>
-        requires { length book.now.records ≤ R }
-        ensures { result ≡ noted_of book.now }
+    /// With nothing noted.
+    pub fn none() -> Outline<R>
+        ensures { result ≡ nothing_noted }
     {
-        let mut declarations = [0u16; R];
+        Outline {
+            declarations: [0; R],
+            declared: 0,
+            outside: [0; R],
+            noted: 0,
+        }
+    }
+
+    /// Notes what a book has, in place of what was noted. The arrays are filled where they are: an outline that is made
+    /// and handed on is copied.
+    pub fn note_all(&mut self, few: FewRecords<'_, R>)
+        ensures { self.new ≡ noted_of few.entry.book.now }
+    {
+        let book = few.book;
+        self.declared = 0;
+        self.noted = 0;
         let mut declared: usize = 0;
-        let mut outside = [0u16; R];
         let mut noted: usize = 0;
         book.laws();
         for n in 0..book.len() {
             let kind = book.kind(n);
-            declared = note(&mut declarations, declared, n, declares(kind));
-            noted = note(&mut outside, noted, n, is_outside(kind));
+            declared = note(&mut self.declarations, declared, n, declares(kind));
+            noted = note(&mut self.outside, noted, n, is_outside(kind));
         }
-        Outline {
-            declarations,
-            declared,
-            outside,
-            noted,
-        }
+        self.declared = declared;
+        self.noted = noted;
+    }
+
+    /// The outline of a book.
+    pub fn of(few: FewRecords<'_, R>) -> Outline<R>
+        ensures { result ≡ noted_of few.entry.book.now }
+    {
+        let mut outline = Outline::none();
+        outline.note_all(few);
+        outline
     }
 
     /// The numbers of the declarations.

@@ -1,21 +1,22 @@
-//! A book that is accepted: only reading its bytes makes one.
+//! A book that is read: made of bytes that none of causes 1 to 8 refuses, or that are known to be readable.
 
-ghost use Rattle.std.specs.Prelude.{◌≡◌, ◌≤◌, length, IfOk, Result};
+ghost use Rattle.std.specs.Prelude.{◌≡◌, ◌≤◌, ◌+◌, ◌*◌, ◌/◌, ◌%◌, length, IfOk, Result};
 ghost use Rattle.record.specs.Kind.{kind_from};
+ghost use Rattle.book.specs.Blocks.{record_count, wildcards};
 ghost use Rattle.book.specs.Trees.{Readable};
-ghost use Rattle.book.specs.Outline.{◌!◌};
+ghost use Rattle.book.specs.Outline.{read, ◌!◌};
 ghost use Rattle.book.specs.Accepted.{book_of, IsRead, Earlier};
 
 use crate::blocks::Blocks;
 use crate::scan;
-use record::Record;
 use record::kind::{Kind, UnknownKind};
 use record::refusal::Refusal;
+use record::{BLOCK_BYTES, BLOCK_RECORDS, HEADER_BYTES, RECORD_BYTES, Record, bytes};
 use std::marker::Model;
 
-/// A book that none of causes 1 to 8 refuses: its bytes, how many records it has, and whether there are wildcard
-/// imports. It is not `Copy`, since a struct that has a lifetime and a model cannot be.
-#[derive(Drop)]
+/// A book that can be read: its bytes, how many records it has, and whether there are wildcard imports. It is not
+/// `Copy`, since a struct that has a lifetime and a model cannot be.
+#[derive(Clone, Drop)]
 pub struct Book<'a> {
     bytes: &'a [u8],
     count: u16,
@@ -23,14 +24,42 @@ pub struct Book<'a> {
 }
 
 impl<'a> Model for Book<'a> {
-    ghost use Rattle.book.specs.Outline.{Book, read};
-    ghost use Rattle.book.specs.Accepted.{Kept};
+    ghost use Rattle.book.specs.Outline.{Book};
+    ghost use Rattle.book.specs.Accepted.{book_in, Kept};
 
     ghost Value = { Book };
 
-    ghost view = { λ b. read b.bytes.now };
+    ghost view = { λ b. book_in b.bytes.now b.count b.wildcards };
 
     ghost invariant = { λ b. Kept b.bytes.now b.count b.wildcards };
+}
+
+// How many records stand in readable bytes: every block but the last has as many as fit.
+#[tactic(auto, unfolding(crate::specs::Blocks::record_count))]
+fn count_of(book: &[u8]) -> u16
+    requires { record_count book.now ≤ 1344 }
+    ensures { result ≡ record_count book.now }
+{
+    let last = (book.len() / BLOCK_BYTES).saturating_sub(1);
+    let block = bytes::from(book, BLOCK_BYTES * last);
+    BLOCK_RECORDS * last as u16 + u16::from(bytes::byte(block, 2))
+}
+
+// Whether byte 3 of a book tells of wildcard imports. A byte past the end counts as 0.
+#[tactic(auto, unfolding(crate::specs::Blocks::wildcards))]
+fn wildcards_of(book: &[u8]) -> bool
+    ensures { result ≡ wildcards book.now }
+{
+    bytes::byte(book, 3) == 1
+}
+
+// Where record n of a book ends.
+fn end_of(n: u16) -> usize
+    ensures { result ≡ 512 * (n / 21) + 4 + 24 * (n % 21) + 24 }
+{
+    let block = usize::from(n / BLOCK_RECORDS);
+    let before = usize::from(n % BLOCK_RECORDS);
+    BLOCK_BYTES * block + HEADER_BYTES + RECORD_BYTES * before + RECORD_BYTES
 }
 
 impl<'a> Book<'a> {
@@ -50,8 +79,22 @@ impl<'a> Book<'a> {
         })
     }
 
-    /// Record `n`, all zeros where there is none, since the bytes behind the last record are zero. Its children are
-    /// earlier records.
+    /// The book in bytes that are known to be readable, whatever their checks and the bytes behind the last record are:
+    /// these are left out, so that behind the last record there is none.
+    pub fn of_readable(bytes: &'a [u8]) -> Book<'a>
+        requires { Readable bytes.now }
+        ensures { result ≡ read bytes.entry.now }
+    {
+        let count = count_of(bytes);
+        Book {
+            bytes: &bytes[..end_of(count - 1)],
+            count,
+            wildcards: wildcards_of(bytes),
+        }
+    }
+
+    /// Record `n`, all zeros where there is none, since the bytes that are kept are zero or end behind the last record.
+    /// Its children are earlier records.
     pub fn record(&self, n: u16) -> Record
         ensures value { result ≡ self.now ! n }
         ensures earlier { Earlier n result }

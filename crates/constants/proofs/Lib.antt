@@ -30,3 +30,4 @@ pub mod Admitted
 pub mod Readings
 pub mod Evaluating
 pub mod Evaluations
+pub mod Arrays

@@ -1,5 +1,5 @@
--- That constants keep their values, told of what `evaluate_constants` answers and leaves: the proof for every run that
--- keeps the promise is in proofs/Demand3.antt.
+-- That constants keep their values, told of what any evaluation over arrays answers and leaves: the proof for every one
+-- that keeps the promise is in proofs/Demand3.antt, and that each run of `evaluate` is one in proofs/Arrays.antt.
 -- Assumes nothing.
 use Rattle.std.specs.Prelude.{ℕ, ◌<◌, Bool, true, false, ◌↔◌, ◌⊎◌, ◌≡◌, ℤ, get_or}
 use mathlib.Core.List.{List, Memᴰ}

@@ -16,3 +16,4 @@ pub mod Given
 pub mod Tree
 pub mod Steps
 pub mod Evaluations
+pub mod Arrays

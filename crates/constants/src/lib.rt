@@ -13,6 +13,7 @@ use crate::reached::{Order, Values};
 use crate::works::Works;
 use book::readable::Book;
 
+pub mod laws;
 pub mod reached;
 mod tree;
 mod works;

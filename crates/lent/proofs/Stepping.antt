@@ -1,12 +1,12 @@
 -- The promise of the value form, from what its callees ensure.
 -- Assumes nothing.
-use Prim.Native.Nat.{ℕ, zero, suc, ◌*◌, ◌≤◌, min, zero-le}
+use Prim.Native.Nat.{ℕ, zero, suc, ◌-◌, ◌*◌, ◌≤◌, min, zero-le}
 use native.Mathlib.Nat.{not-suc-le-zero, le_of_suc-le-suc}
-use mathlib.Core.List.{List, ◌∷◌, map}
+use mathlib.Core.List.{List, ◌∷◌, ◌++◌, map}
 use mathlib.Core.Path.{◌≡◌, refl, sym, ap, ap₂, ◌∙◌}
 use native.Mathlib.Omega.{arith}
 use lib.ListN.{length, take, replicate, length-map, length-replicate}
-use Rattle.arrayvec.specs.ArrayVec.{ArrayVec}
+use lib.Seq.{take_at}
 use Rattle.record.specs.Bytes.{AreBytes}
 use Rattle.record.specs.Write.{room_for, with_records, cleared}
 use Rattle.book.specs.Lists.{from}
@@ -90,17 +90,19 @@ module _
   step_few = omega (arith, reads.few)
 
   pub stepped :
-      (told : ArrayVec Diagnostic) → told.items ≡ map diagnostic_of (first_records n s') →
-      Stepped ctx book results room (record { ctx = c.ctx; reply = c.reply; told = told }) results'
+      (told : List Diagnostic) → told ≡ map diagnostic_of (first_records n s') ++ replicate (256 - n) no_diagnostic →
+      Stepped ctx book results room (record { ctx = c.ctx; reply = c.reply; count = n; told = told }) results'
   stepped told e =
-      let is : told.items ≡ front_of book results room = e ∙ reads.read_are in
-      let long : length told.items ≡ n = ap (λ (l : List Diagnostic). length l) is ∙ sym reads.count_is in
+      let zeros = replicate (256 - n) no_diagnostic in
+      let are : told ≡ front_of book results room ++ zeros = e ∙ ap (λ (l : List Diagnostic). l ++ zeros) reads.read_are in
       record {
         reply_is = reads.reply_same;
         ctx_is = x.counters ∙ counters_with ctx book results s (bytes_for room) (limited ∙ sym (zeros_room room));
         results_are = reads.results_same;
-        told_are = is;
-        few = omega (arith, reads.few);
+        count_is = reads.count_is;
+        front_is = ap (take n) are ∙ take_at (front_of book results room) zeros n (sym reads.count_is);
+        told_are = are;
+        few = step_few;
         room_for = omega (arith, reads.few);
       }
 

@@ -1,14 +1,14 @@
 -- Structs as bytes: those of records, of zero ones, and a front of some before the rest of others; structs read from
 -- bytes.
 -- Assumes nothing.
-use Prim.Native.Nat.{ℕ, zero, suc, ◌+◌, ◌*◌, ◌^◌, ◌≤◌, ◌<◌}
+use Prim.Native.Nat.{ℕ, zero, suc, ◌+◌, ◌*◌, ◌-◌, ◌^◌, ◌≤◌, ◌<◌}
 use mathlib.Core.List.{List, [], ◌∷◌, ◌++◌, flat_map, map, map-append, append_assoc, append-nil}
 use mathlib.Core.Path.{◌≡◌, refl, sym, ap, ap₂, ◌∙◌}
 use native.Mathlib.Omega.{arith}
 use native.Mathlib.Numerals.{add-one}
 use lib.Dec.{lit<}
-use lib.ListN.{length, drop, replicate, length-map, length-replicate, replicate-append-replicate}
-use lib.Seq.{drop-nil, drop_at, drop-drop}
+use lib.ListN.{length, drop, replicate, set, length-map, length-replicate, replicate-append-replicate}
+use lib.Seq.{drop-nil, drop_at, drop-drop, set_at}
 use Rattle.record.specs.declared.Record.{Record}
 use Rattle.record.specs.Bytes.{little_bytes}
 use Rattle.record.specs.Layout.{Within, decode_record, encode_record}
@@ -220,7 +220,7 @@ module _ (bytes : List ℕ) where
       ∙ ap (map diagnostic_of) (map-append _ (up_to k) (k ∷ []))
       ∙ map-append diagnostic_of (map (λ i. decode_record (drop (24 * i) bytes)) (up_to k)) (decode_record (drop (24 * k) bytes) ∷ [])
 
-  -- none at first, as many as records are read, and one more
+  -- none at first, and one more
   pub read_none : read_up_to 0 ≡ []
   unfolding first_records from
   read_none = refl
@@ -228,4 +228,18 @@ module _ (bytes : List ℕ) where
   pub read_more : (k : ℕ) → read_up_to k ++ (struct_at k ∷ []) ≡ read_up_to (k + 1)
   read_more k = sym (one_more_lem k) ∙ ap read_up_to (sym (add-one k))
 
-pub ruleset reading = (read_none, read_length, read_more)
+  -- with zero ones behind them, up to 256 or any m
+  pub read_first : replicate 256 no_diagnostic ≡ read_up_to 0 ++ replicate (256 - 0) no_diagnostic
+  read_first = ap (λ (l : List Diagnostic). l ++ replicate 256 no_diagnostic) (sym read_none)
+
+  pub read_next :
+      (m k : ℕ) → k < m →
+      set (read_up_to k ++ replicate (m - k) no_diagnostic) k (struct_at k) ≡ read_up_to (k + 1) ++ replicate (m - (k + 1)) no_diagnostic
+  read_next m k less =
+      let one : m - k ≡ suc (m - (k + 1)) = omega arith in
+      ap (λ (n : ℕ). set (read_up_to k ++ replicate n no_diagnostic) k (struct_at k)) one
+      ∙ set_at (read_up_to k) no_diagnostic (replicate (m - (k + 1)) no_diagnostic) (struct_at k) k (read_length k)
+      ∙ sym (append_assoc (read_up_to k) (struct_at k ∷ []) (replicate (m - (k + 1)) no_diagnostic))
+      ∙ ap (λ (l : List Diagnostic). l ++ replicate (m - (k + 1)) no_diagnostic) (read_more k)
+
+pub ruleset reading = (read_first, read_next)

@@ -1,7 +1,7 @@
 -- The lowering with its counters lent, and its diagnostics as a list of structs: the promises of the entry and of the
 -- value form below it.
 -- Assumes nothing.
-use Rattle.std.specs.Prelude.{ℕ, ◌*◌, ◌≤◌, min, cond, List, [], ◌++◌, map, ◌≡◌, ltb, length, drop, replicate}
+use Rattle.std.specs.Prelude.{ℕ, ◌-◌, ◌*◌, ◌≤◌, min, cond, List, [], ◌++◌, map, ◌≡◌, ltb, length, take, drop, replicate}
 use Rattle.types.specs.declared.LowerCtx.{LowerCtx}
 use Rattle.lower.specs.LowerBook.{Reply, accepted, refused, Outcome, lower_book}
 use Rattle.lower.specs.Promise.{Answered, reply_of}
@@ -54,11 +54,14 @@ LoweredLent ctx book results diagnostics reply ctx' results' diagnostics' =
     ≡ lower_lent ctx book results diagnostics
 
 -- the promise of the value form, for a list of so many structs: what `lower_lent` gives for one, and the structs at its
--- front, which are no more than may be told and no more than the list holds
+-- front, the first so many of an array of 256, with zero ones behind them. They are no more than may be told and no
+-- more than the list holds
 pub record Stepped (ctx : LowerCtx) (book results : List ℕ) (room : ℕ) (x : Step) (results' : List ℕ) : Type 0 where
   pub reply_is : reply_of x.reply ≡ (as_bytes book results room).reply
   pub ctx_is : x.ctx ≡ counters_after ctx book results (bytes_for room)
   pub results_are : results' ≡ (as_bytes book results room).results
-  pub told_are : x.told.items ≡ front_of book results room
-  pub few : length x.told.items ≤ 256
-  pub room_for : length x.told.items ≤ room
+  pub count_is : x.count ≡ length (front_of book results room)
+  pub front_is : take x.count x.told ≡ front_of book results room
+  pub told_are : x.told ≡ front_of book results room ++ replicate (256 - x.count) no_diagnostic
+  pub few : x.count ≤ 256
+  pub room_for : x.count ≤ room

@@ -53,6 +53,6 @@ pub fn lower_lent(
 {
     let behind = step::lower_step(*ctx, book, results, diagnostics.len());
     *ctx = behind.ctx;
-    append(diagnostics, behind.told.as_slice());
+    append(diagnostics, &behind.told[..behind.count]);
     behind.reply
 }

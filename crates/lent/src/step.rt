@@ -1,25 +1,25 @@
 //! The lowering with its counters and its diagnostics by value.
 
-ghost use Rattle.std.specs.Prelude.{◌≡◌, List, map, ℕ, ◌≤◌, length};
+ghost use Rattle.std.specs.Prelude.{◌≡◌, List, ◌++◌, map, ℕ, ◌-◌, ◌≤◌, length, replicate};
 ghost use Rattle.lower.specs.Laws.{first_records};
 ghost use Rattle.lower.specs.Promise.{reply_of};
-ghost use Rattle.lent.specs.Diagnostics.{diagnostic_of};
+ghost use Rattle.lent.specs.Diagnostics.{diagnostic_of, no_diagnostic};
 ghost use Rattle.lent.specs.Lent.{front, Stepped};
 
 use crate::{Diagnostic, ErrorClass, MOST};
-use arrayvec::ArrayVec;
 use lower::{Counted, Counts};
 use record::refusal::{Cause, Refusal};
 use record::{RECORD_BYTES, Record, write};
 use types::LowerCtx;
 
-/// What lowering a book gives: the counters, the reply, and the diagnostics. It is `Clone` and not `Copy`, as an
-/// `ArrayVec` is.
-#[derive(Clone, Drop)]
+/// What lowering a book gives: the counters, the reply, and the diagnostics, `count` of them at the front of `told` and
+/// zero ones behind them. An `ArrayVec` in the place of these two would not be `Copy`.
+#[derive(Clone, Copy)]
 pub struct Step {
     pub ctx: LowerCtx,
     pub reply: Result<Counts, Refusal>,
-    pub told: ArrayVec<Diagnostic, MOST>,
+    pub count: usize,
+    pub told: [Diagnostic; MOST],
 }
 
 impl From<Record> for Diagnostic {
@@ -39,16 +39,15 @@ impl From<Record> for Diagnostic {
     }
 }
 
-// The structs of the first n records of a slice. They are pushed, since `collect` and `extend` answer an error where
-// the list is full, which is not so here, and `push` asks that there is room.
+// The structs of the first n records of a slice, and zero ones behind them.
 #[tactic(auto, using(crate::proofs::Structs::reading))]
-fn structs(bytes: &[u8], n: u16) -> ArrayVec<Diagnostic, MOST>
+fn structs(bytes: &[u8], n: u16) -> [Diagnostic; MOST]
     requires { n ≤ MOST }
-    ensures { result.items ≡ map diagnostic_of (first_records n bytes.now) }
+    ensures { result ≡ map diagnostic_of (first_records n bytes.now) ++ replicate (256 - n) no_diagnostic }
 {
-    let mut told = ArrayVec::new();
+    let mut told = [Diagnostic::default(); MOST];
     for k in 0..n {
-        told.push(Diagnostic::from(write::written_at(bytes, k)));
+        told[usize::from(k)] = Diagnostic::from(write::written_at(bytes, k));
     }
     told
 }
@@ -75,9 +74,11 @@ pub fn lower_step(ctx: LowerCtx, book: &[u8], results: &mut [u8], room: usize) -
     let mut zeros = [0u8; RECORD_BYTES * MOST];
     let bytes = &mut zeros[..RECORD_BYTES * MOST.min(room)];
     let Counted { ctx: after, reply } = lower::lower_counted(ctx, book, results, bytes);
+    let n = front_length(reply, room);
     Step {
         ctx: after,
         reply,
-        told: structs(bytes, front_length(reply, room)),
+        count: usize::from(n),
+        told: structs(bytes, n),
     }
 }

@@ -57,17 +57,17 @@ module _ (book : Book) (is : IsRead book) where
       (ℕ × ResolvedType)). entry (book ! n).a l) nothing)
 
   pub whole_read :
-      (n : ℕ) (results diagnostics : List ℕ) {c : Counted} {r' d' : List ℕ} → names_below n book.records ≡ true →
-      length book.records ≤ n →
-      Replies (lower_whole n book results diagnostics) (valued (evaluated book)) c r' d'
+      (n room : ℕ) (results diagnostics : List ℕ) {c : Counted} {r' d' : List ℕ} → names_below n book.records ≡ true →
+      length book.records ≤ room →
+      Replies (lower_whole n room book results diagnostics) (valued (evaluated book)) c r' d'
       → LowersRead book results diagnostics c r' d'
   unfolding lower_whole lower_parts evaluated
-  whole_read n results diagnostics {c} {r'} {d'} low held x =
-      lowers_read results diagnostics (begun book is n low held)
+  whole_read n room results diagnostics {c} {r'} {d'} low held x =
+      lowers_read results diagnostics (begun book is n room low held)
       (λ s. lower_aliases (numbers_of is_declaration book) s) (λ s. lower_constants (evaluated book) s)
       (λ s. lower_bodies (numbers_of is_outside book) s)
       (λ n a k rs. Unit {0}) (λ n a k rs. Unit {0})
       aliases_do
       (lowers_as_defined book is.well_formed (settled book))
-      (valued (evaluated book)) (lower_whole n book results diagnostics).answer _ _ c r' d'
+      (valued (evaluated book)) (lower_whole n room book results diagnostics).answer _ _ c r' d'
       (stored_are book) refl refl refl x.reply x.results_are x.diagnostics_are

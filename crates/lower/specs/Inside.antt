@@ -40,10 +40,11 @@ lower_parts declarations settled outside s =
     next (lower_aliases declarations s) (λ _ t.
     next (lower_constants settled t) (λ _ u. next (lower_bodies outside u) (λ _ v. done (counters_of v) v)))
 
--- where the parts begin, with the declarations registered in tables for the names below a number
-abbrev pub entered : ℕ → Book → List ℕ → List ℕ → List ℕ → State
-entered bound book declarations results diagnostics =
-    begun book (registered book declarations (nothing_known bound)) results diagnostics
+-- where the parts begin, with the declarations registered in tables for the names below a number, with room for so many
+-- generic aliases and pairs
+abbrev pub entered : ℕ → ℕ → Book → List ℕ → List ℕ → List ℕ → State
+entered bound room book declarations results diagnostics =
+    begun book (registered book declarations (nothing_known bound room)) results diagnostics
 
 -- how many of some constants have a value
 abbrev pub valued : List Settled → ℕ
@@ -68,15 +69,15 @@ abbrev pub left_by : Result LowerCtx Refusal → ℕ → List ℕ → List ℕ
 left_by (Ok ctx) most bytes = bytes
 left_by (Err refusal) most bytes = cleared (room_for most bytes) bytes
 
--- a book with tables for the names below a number
-unfoldable pub lower_whole : ℕ → Book → List ℕ → List ℕ → Outcome LowerCtx
-lower_whole bound book results diagnostics =
+-- a book with tables for the names below a number, with room for so many generic aliases and pairs
+unfoldable pub lower_whole : ℕ → ℕ → Book → List ℕ → List ℕ → Outcome LowerCtx
+lower_whole bound room book results diagnostics =
     let declarations = (noted_of book).declarations in
     lower_parts
     declarations
     (evaluated book)
     (noted_of book).outside
-    (entered bound book declarations results diagnostics)
+    (entered bound room book declarations results diagnostics)
 
 -- the counters and the reply to an outcome, and what is left in the slices
 pub record Replies (o : Outcome LowerCtx) (stored : ℕ) (c : Counted) (results diagnostics : List ℕ) : Type 0 where

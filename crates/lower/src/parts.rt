@@ -14,7 +14,7 @@ ghost use Rattle.lower.specs.Inside.{entered, evaluated, fits, lower_parts, lowe
 use crate::{Counted, Counts};
 use bodies::body::lower_bodies;
 use bodies::reached::lower_constants;
-use book::outline::Outline;
+use book::outline::{FewRecords, Outline};
 use book::{Book, NAMES, RECORDS};
 use constants::reached::{Order, Settled, Values};
 use record::refusal::Refusal;
@@ -28,7 +28,8 @@ use types::{LowerCtx, MOST_DIAGNOSTICS, MOST_RESULTS};
 // so clearing them takes less time than lowering it.
 const LEAST: usize = 84;
 
-// A book that does not fit those takes the next, and else the greatest, which have room for any.
+// A book that does not fit those takes the next; then those with room for as many records, but for all names; and else
+// the greatest, which have room for any.
 const FEW: usize = 336;
 
 // Whether tables for names below `names` and for so many records have room for a book.
@@ -48,11 +49,11 @@ struct Parts<'a> {
 
 // Lowers plain aliases, constants and bodies, the names being known; the counters behind them.
 #[tactic(auto, unfolding(crate::specs::Inside::lower_parts, record::specs::Written::shown))]
-fn lower_parts<const N: usize>(
-    lowering: &mut Lowering<'_, '_, '_, '_, N>,
+fn lower_parts<const N: usize, const R: usize>(
+    lowering: &mut Lowering<'_, '_, '_, '_, N, R>,
     parts: Parts<'_>,
 ) -> Result<LowerCtx, Refusal>
-    ensures { Steps N lowering.old lowering.new result
+    ensures { Steps N R lowering.old lowering.new result
         (lower_parts parts.entry.declarations.now parts.entry.settled.now parts.entry.outside.now) }
 {
     lowering.lower_aliases(parts.declarations)?;
@@ -67,22 +68,22 @@ fn lower_parts<const N: usize>(
 
 // The same from the start, into the two slices. They stay two parameters, here and below: a struct over slices that are
 // changed tells its lender nothing of what they hold at the end.
-fn lower_known<const N: usize>(
+fn lower_known<const N: usize, const R: usize>(
     book: &Book<'_>,
-    names: &mut Names<N>,
+    names: &mut Names<N, R>,
     parts: Parts<'_>,
     results: &mut [u8],
     diagnostics: &mut [u8],
 ) -> Result<LowerCtx, Refusal>
     ensures answer { result
         ≡ (lower_parts parts.entry.declarations.now parts.entry.settled.now parts.entry.outside.now
-        (begun book.now (tables N names.old) results.old diagnostics.old)).answer }
+        (begun book.now (tables N R names.old) results.old diagnostics.old)).answer }
     ensures results { results.new
         ≡ all_of (lower_parts parts.entry.declarations.now parts.entry.settled.now parts.entry.outside.now
-        (begun book.now (tables N names.old) results.old diagnostics.old)).state.results }
+        (begun book.now (tables N R names.old) results.old diagnostics.old)).state.results }
     ensures diagnostics { diagnostics.new
         ≡ all_of (lower_parts parts.entry.declarations.now parts.entry.settled.now parts.entry.outside.now
-        (begun book.now (tables N names.old) results.old diagnostics.old)).state.diagnostics }
+        (begun book.now (tables N R names.old) results.old diagnostics.old)).state.diagnostics }
 {
     let mut lowering = Lowering::new(book, names, results, diagnostics);
     lower_parts(&mut lowering, parts)
@@ -156,15 +157,15 @@ impl<'b, const N: usize, const R: usize> Fitting<'b, N, R> {
     ) -> Result<LowerCtx, Refusal>
         ensures answer { result
             ≡ (lower_parts parts.entry.declarations.now parts.entry.settled.now parts.entry.outside.now
-            (entered N self.now.book.now parts.entry.declarations.now results.old diagnostics.old)).answer }
+            (entered N R self.now.book.now parts.entry.declarations.now results.old diagnostics.old)).answer }
         ensures results { results.new
             ≡ all_of (lower_parts parts.entry.declarations.now parts.entry.settled.now parts.entry.outside.now
-            (entered N self.now.book.now parts.entry.declarations.now results.old diagnostics.old)).state.results }
+            (entered N R self.now.book.now parts.entry.declarations.now results.old diagnostics.old)).state.results }
         ensures diagnostics { diagnostics.new
             ≡ all_of (lower_parts parts.entry.declarations.now parts.entry.settled.now parts.entry.outside.now
-            (entered N self.now.book.now parts.entry.declarations.now results.old diagnostics.old)).state.diagnostics }
+            (entered N R self.now.book.now parts.entry.declarations.now results.old diagnostics.old)).state.diagnostics }
     {
-        let mut names = Names::<N>::new();
+        let mut names = Names::<N, R>::new();
         names.register(self.book, parts.declarations);
         lower_known(self.book, &mut names, parts, results, diagnostics)
     }
@@ -172,11 +173,12 @@ impl<'b, const N: usize, const R: usize> Fitting<'b, N, R> {
     // Lowers the book.
     #[tactic(auto, unfolding(crate::specs::Inside::lower_whole))]
     fn lower(&self, results: &mut [u8], diagnostics: &mut [u8]) -> Counted
-        ensures { Replies (lower_whole N self.now.book.now results.old diagnostics.old) (valued (evaluated self.now.book.now))
+        ensures { Replies (lower_whole N R self.now.book.now results.old diagnostics.old) (valued (evaluated self.now.book.now))
             result results.new diagnostics.new }
     {
         let mut order = Order::<R>::none();
-        let outline = Outline::<R>::of(self.book);
+        let mut outline = Outline::<R>::none();
+        outline.note_all(FewRecords { book: self.book });
         self.settle_constants(outline.declarations(), &mut order);
         let stored = count_stored(order.settled());
         let parts = Parts {
@@ -198,6 +200,8 @@ pub(crate) fn lower_read(book: &Book<'_>, results: &mut [u8], diagnostics: &mut 
         Fitting::<LEAST, LEAST> { book }.lower(results, diagnostics)
     } else if fits(book, FEW, FEW) {
         Fitting::<FEW, FEW> { book }.lower(results, diagnostics)
+    } else if usize::from(book.len()) <= FEW {
+        Fitting::<NAMES, FEW> { book }.lower(results, diagnostics)
     } else {
         Fitting::<NAMES, RECORDS> { book }.lower(results, diagnostics)
     }

@@ -10,8 +10,8 @@ use book::{BLOCKS, RECORDS};
 use record::BLOCK_BYTES;
 use types::{MOST_DIAGNOSTICS, MOST_RESULTS};
 
-// The longest book in a list: one block past the limit.
-const BOOK_BYTES: usize = (BLOCKS + 1) * BLOCK_BYTES;
+/// The longest book in a list: one block past the limit.
+pub(crate) const BOOK_BYTES: usize = (BLOCKS + 1) * BLOCK_BYTES;
 
 // Whether the numbers of a slice are in range: at most `bytes` lent, at most `most` records, and no more changed than
 // lent.

@@ -168,7 +168,7 @@ impl From<[u8; 16]> for Header {
 }
 
 // Reads an answer and prints its line.
-fn run_answer<P: Print + AllocGlobal, R: Read>(rt: &P, reader: &mut R) -> Result<(), Stop> {
+fn run_answer<P: Print, R: Read>(rt: &P, reader: &mut R) -> Result<(), Stop> {
     let mut header = [0u8; 16];
     reader.read_exact(&mut header)?;
     let Header { book: length, loan } = Header::from(header);
@@ -178,14 +178,15 @@ fn run_answer<P: Print + AllocGlobal, R: Read>(rt: &P, reader: &mut R) -> Result
     if loan.shown > MOST_SHOWN || loan.shown > loan.results {
         return Err(Stop::Broken);
     }
-    let book = read_part(rt.alloc(), reader, length)?;
-    lower_and_print(rt, loan, book.as_slice())?;
+    let mut room = [0u8; BOOK_BYTES];
+    let book = read_part(reader, &mut room, length)?;
+    lower_and_print(rt, loan, book)?;
     Ok(())
 }
 
 // Reads answers to the end of the input. It goes by a count that no input reaches, since a loop has to have an end, and
 // how long an input is cannot be known.
-fn run<P: Print + AllocGlobal, R: BufRead>(rt: &P, reader: &mut R) -> Result<(), Stop> {
+fn run<P: Print, R: BufRead>(rt: &P, reader: &mut R) -> Result<(), Stop> {
     for _ in 0..u64::MAX {
         if reader.fill_buf()?.is_empty() {
             break;

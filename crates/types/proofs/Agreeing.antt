@@ -17,7 +17,7 @@ use Rattle.types.proofs.Declared.{plain_distinct}
 use Rattle.types.proofs.PlainAliases.{does_aliases}
 
 pub registers_as_defined : RegistersAsDefined
-registers_as_defined book read n low held = begun book read n low held
+registers_as_defined book read n room low held = begun book read n room low held
 
 pub begins_as_defined : BeginsAsDefined
 begins_as_defined lent book t k h = stands_first lent book t k h

@@ -18,7 +18,7 @@ use Rattle.book.specs.Faults.{record_of, is_kind, is_declaration}
 use Rattle.book.specs.Outline.{Book, ◌!◌, numbers_of}
 use Rattle.book.specs.Accepted.{IsRead}
 use Rattle.book.proofs.Listed.{any-map, any_listed}
-use Rattle.book.proofs.Lists.{keep-length}
+use Rattle.book.proofs.Lists.{keep-length, from-length}
 use Rattle.types.specs.Lowering.{start}
 use Rattle.types.specs.Resolved.{Names, entry, own_number, alias_of}
 use Rattle.types.specs.Numbers.{Generic, generic_at, type_declarations, generic_aliases, generics}
@@ -29,9 +29,9 @@ use Rattle.types.specs.Tables.{Tables, alias_in, is_marked, generic_in}
 use Rattle.types.specs.Registry.{nothing_known, types_numbered, registered, with_types}
 use Rattle.types.specs.Begun as begins
 use Rattle.types.specs.Stands.{option_of, generic_of, pair_of, is_unmet, below_types, IsAlias, Lent, Knows, Stands}
-use Rattle.types.proofs.Distinct.{Distinct, few_distinct, entered, entered_first, numbered_low, numbered_at}
+use Rattle.types.proofs.Distinct.{Distinct, entered, entered_first, numbered_low, numbered_at}
 use Rattle.types.proofs.Parametered.{is_generic}
-use Rattle.types.proofs.Declared.{keep_keep, distinct_behind, distinct_names, types_apart, generic_kind, shared_type}
+use Rattle.types.proofs.Declared.{keep_keep, distinct_names, types_apart, shared_type}
 use Rattle.types.proofs.Declared.{distinct, few_declared}
 use Rattle.types.proofs.Declares.{is_type, type_declares, alias_declares, mark_declares}
 use Rattle.types.proofs.Registered.{Named, names, types_among, generics_among, is_mark, Below, Types, types_law}
@@ -92,8 +92,8 @@ nothing_there : {A : Type 0} (b : Bool) (n i : ℕ) → (if b then get_or (repli
 nothing_there true n i = same_everywhere n i None
 nothing_there false n i = refl
 
-module _ (book : Book) (read : IsRead book) (N : ℕ) (low : names_below N book.records ≡ true)
-    (held : length book.records ≤ N) where
+module _ (book : Book) (read : IsRead book) (N P : ℕ) (low : names_below N book.records ≡ true)
+    (held : length book.records ≤ P) where
   abbrev rs : List Record
   rs = book.records
 
@@ -108,15 +108,15 @@ module _ (book : Book) (read : IsRead book) (N : ℕ) (low : names_below N book.
   all_below [] h = tt
   all_below (k ∷ ks) h = (below k (h k (Memᴰ.head refl)), all_below ks (λ j m. h j (Memᴰ.tail m)))
 
-  few_generics : length (generic_aliases book) ≤ N
+  few_generics : length (generic_aliases book) ≤ P
+  unfolding generic_aliases numbers_of
   few_generics =
-      let l : List ℕ = names book (generic_aliases book) in
       omega (
         arith,
-        few_distinct N l (all_below (generic_aliases book)
-            (λ k m. (alias_declares (book ! k) (generic_kind book read k m).1).0))
-            (distinct_behind (names book (type_declarations book)) l (distinct book read)),
-        length-map (generic_aliases book) (λ n. (book ! n).a),
+        keep-length (is_generic book) (keep (λ n. is_kind 23 (book ! n)) (up_to (length rs))),
+        keep-length (λ n. is_kind 23 (book ! n)) (up_to (length rs)),
+        from-length 0 (length rs),
+        held,
       )
 
   abbrev ns : List ℕ
@@ -134,12 +134,12 @@ module _ (book : Book) (read : IsRead book) (N : ℕ) (low : names_below N book.
 
   -- messages, unions and newtypes are numbered first
   abbrev typed : Tables
-  typed = with_types book ns (nothing_known N)
+  typed = with_types book ns (nothing_known N P)
 
-  types_done : Types book (nothing_known N) ns [] typed
+  types_done : Types book (nothing_known N P) ns [] typed
   unfolding numbered_from entry find
   types_done =
-      types_law book ns [] (nothing_known N) below
+      types_law book ns [] (nothing_known N P) below
       (record {
         numbers_long = length-replicate N None;
         next_is = refl;
@@ -154,7 +154,7 @@ module _ (book : Book) (read : IsRead book) (N : ℕ) (low : names_below N book.
 
   -- and then generic aliases
   abbrev done : Tables
-  done = registered book ns (nothing_known N)
+  done = registered book ns (nothing_known N P)
 
   behind_types : Generics book (types_numbered typed) ns (names book (type_declarations book)) [] done
   behind_types =
@@ -174,11 +174,14 @@ module _ (book : Book) (read : IsRead book) (N : ℕ) (low : names_below N book.
         length-map (type_declarations book) (λ n. (book ! n).a),
         length-map (generic_aliases book) (λ n. (book ! n).a),
       )))
-      (subst (λ (l : List ℕ). 0 + length l ≤ typed.bound) (sym aliases_among)
-      (omega (arith, few_generics, bound_is)))
+      (subst (λ (l : List ℕ). 0 + length l ≤ typed.room) (sym aliases_among)
+      (omega (arith, few_generics, room_is)))
     where
       bound_is : typed.bound ≡ N
       bound_is = ap (λ (s : Tables). s.bound) types_done.only
+
+      room_is : typed.room ≡ P
+      room_is = ap (λ (s : Tables). s.room) types_done.only
 
       named : Named typed (names book (type_declarations book))
       named = subst (λ (l : List ℕ). Named typed (names book l)) types_are types_done.named
@@ -200,6 +203,9 @@ module _ (book : Book) (read : IsRead book) (N : ℕ) (low : names_below N book.
 
   bound_is : done.bound ≡ N
   bound_is = ap (λ (s : Tables). s.bound) behind_types.only ∙ ap (λ (s : Tables). s.bound) types_done.only
+
+  room_is : done.room ≡ P
+  room_is = ap (λ (s : Tables). s.room) behind_types.only ∙ ap (λ (s : Tables). s.room) types_done.only
 
   types_listed : keep (λ k. is_type (record_of rs k)) (up_to (length rs)) ≡ type_declarations book
   unfolding type_declarations numbers_of
@@ -299,7 +305,7 @@ module _ (book : Book) (read : IsRead book) (N : ℕ) (low : names_below N book.
           ap (λ (s : Tables). length s.pairs) behind_types.only,
           ap (λ (s : Tables). length s.pairs) types_done.only,
           keep-length (is_unmet []) rs,
-          bound_is,
+          room_is,
           held,
         );
         pairs_are = ap (λ (s : Tables). map pair_of s.pairs) behind_types.only

@@ -221,7 +221,7 @@ module _ (book : Book) where
   abbrev GenericsLater : List ℕ → Type 0
   GenericsLater ns = (xs : List ℕ) (gs : List Generic) (c : Tables) → Below c.bound → Named c xs → map generic_of c.generics ≡ gs
       → Distinct (xs ++ names (generics_among ns))
-      → length (xs ++ names (generics_among ns)) < 4294967295 → length gs + length (generics_among ns) ≤ c.bound
+      → length (xs ++ names (generics_among ns)) < 4294967295 → length gs + length (generics_among ns) ≤ c.room
       → Generics c ns xs gs (with_aliases book ns c)
 
   pub generics_law : (ns : List ℕ) → GenericsLater ns
@@ -254,7 +254,7 @@ module _ (book : Book) where
           let ih : Generics c ns xs gs t =
           later xs gs c below h l (subst (λ (l : List ℕ). Distinct (xs ++ names l)) e d)
           (subst (λ (l : List ℕ). length (xs ++ names l) < 4294967295) e few)
-          (subst (λ (l : List ℕ). length gs + length l ≤ c.bound) e room) in
+          (subst (λ (l : List ℕ). length gs + length l ≤ c.room) e room) in
           subst (λ (s : Tables). Generics c (n ∷ ns) xs gs (with_aliases book ns s)) (sym is)
           (record {
             named = subst (λ (l : List ℕ). Named t (xs ++ names l)) (sym e) ih.named;
@@ -275,8 +275,8 @@ module _ (book : Book) where
           (λ (l : List ℕ). Distinct (xs ++ names l)) e d in
           let few' : length (xs ++ x ∷ names (generics_among ns)) < 4294967295 = subst
           (λ (l : List ℕ). length (xs ++ names l) < 4294967295) e few in
-          let room' : length gs + suc (length (generics_among ns)) ≤ c.bound = subst
-          (λ (l : List ℕ). length gs + length l ≤ c.bound) e room in
+          let room' : length gs + suc (length (generics_among ns)) ≤ c.room = subst
+          (λ (l : List ℕ). length gs + length l ≤ c.room) e room in
           let assoc : (xs ++ x ∷ []) ++ names (generics_among ns)
           ≡ xs ++ x ∷ names (generics_among ns) = append_assoc xs (x ∷ []) (names (generics_among ns)) in
           let named : Named (stubbed c x) (xs ++ x ∷ []) =
@@ -284,8 +284,8 @@ module _ (book : Book) where
           (omega (arith, length-append xs (x ∷ names (generics_among ns)))) in
           let many : length c.generics ≡ length gs = sym (length-map c.generics generic_of)
           ∙ ap (λ (l : List Generic). length l) l in
-          let inside : nat_lt (length c.generics) c.bound
-          ≡ true = let low : length c.generics < c.bound = omega (arith, many)
+          let inside : nat_lt (length c.generics) c.room
+          ≡ true = let low : length c.generics < c.room = omega (arith, many)
           in grind (arith, nat_tests) in
           let listed : map generic_of c'.generics ≡ gs' =
           rw (inside, map-append generic_of c.generics (g ∷ [])) (ap (λ (l : List Generic). l ++ generic_of g ∷ []) l) in

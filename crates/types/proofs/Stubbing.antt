@@ -131,11 +131,11 @@ module _ (book : Book) (c : Tables) (k : Names) (rs : List Record) (r : Record) 
     fewer_unmet : suc (length (keep (is_unmet among) book.records)) ≤ length (keep (is_unmet k.pairs) book.records)
     fewer_unmet = one_unmet book k m space name k.next is free
 
-    small : length c.pairs < c.bound
+    small : length c.pairs < c.room
     small = omega (arith, h.pairs_room, fewer_unmet)
 
-    is_room : nat_lt (length c.pairs) c.bound ≡ true
-    is_room = let less : length c.pairs < c.bound = small in grind (arith, nat_tests)
+    is_room : nat_lt (length c.pairs) c.room ≡ true
+    is_room = let less : length c.pairs < c.room = small in grind (arith, nat_tests)
 
     pub knows_pair : Knows book (paired c space name) (with_pair space name k) (rs ++ r ∷ [])
     unfolding with_pair own_number alias_of

@@ -25,11 +25,12 @@ use Rattle.types.specs.Walk as walk
 use Rattle.types.specs.PlainAliases.{lower_aliases}
 use Rattle.types.specs.Stands.{Lent, Knows, Stands, Does, Refines, Always, SameNumber, Resolves}
 
--- registering: in tables with room for a book that is read, the code knows of names what the definitions begin with
+-- registering: in tables with an entry for each name of a book that is read, and room for as many generic aliases and
+-- pairs as it has records, the code knows of names what the definitions begin with
 abbrev pub RegistersAsDefined : Type 0
 RegistersAsDefined =
-    (book : Book) → IsRead book → (n : ℕ) → names_below n book.records ≡ true → length book.records ≤ n →
-    Knows book (registered book (numbers_of is_declaration book) (nothing_known n)) (register_declarations book) []
+    (book : Book) → IsRead book → (n room : ℕ) → names_below n book.records ≡ true → length book.records ≤ room →
+    Knows book (registered book (numbers_of is_declaration book) (nothing_known n room)) (register_declarations book) []
 
 -- a lowering with tables that know so begins where one of the definitions does
 abbrev pub BeginsAsDefined : Type 0

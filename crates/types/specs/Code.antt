@@ -38,11 +38,11 @@ pub record State : Type 0 where
   -- the declaration or item being lowered
   pub place : ℕ
 
-abbrev pub state_of : (N : ℕ) → Lowering N → State
-state_of N l =
+abbrev pub state_of : (N P : ℕ) → Lowering N P → State
+state_of N P l =
     record {
       book = l.book.now;
-      names = tables N l.names.now;
+      names = tables N P l.names.now;
       results = shown l.results.now l.written;
       diagnostics = shown l.diagnostics.now l.told;
       place = l.place;
@@ -60,10 +60,10 @@ abbrev pub refuse : {A : Type 0} → Cause → State → Outcome A
 refuse c s = record { answer = Err (record { cause = c; place = s.place }); state = s }
 
 -- what a method answers and leaves behind is what this step does, and what it lends from stays the same
-abbrev pub Steps : {A : Type 0} → (N : ℕ) → Lowering N → Lowering N → Result A Refusal → (State → Outcome A) → Type 0
-Steps N old new result step =
-    (result ≡ (step (state_of N old)).answer)
-    × (state_of N new ≡ (step (state_of N old)).state)
+abbrev pub Steps : {A : Type 0} → (N P : ℕ) → Lowering N P → Lowering N P → Result A Refusal → (State → Outcome A) → Type 0
+Steps N P old new result step =
+    (result ≡ (step (state_of N P old)).answer)
+    × (state_of N P new ≡ (step (state_of N P old)).state)
     × (new.names.ghost_name ≡ old.names.ghost_name)
     × (new.results.ghost_name ≡ old.results.ghost_name)
     × (new.diagnostics.ghost_name ≡ old.diagnostics.ghost_name)

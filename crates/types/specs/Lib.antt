@@ -11,6 +11,7 @@ pub mod Below
 pub mod Tables
 pub mod Code
 pub mod Walk
+pub mod Spots
 pub mod Each
 pub mod Stands
 pub mod Registry

@@ -10,11 +10,12 @@ use Rattle.book.specs.Outline.{Book, ◌!◌}
 use Rattle.types.specs.declared.names.Generic.{Generic}
 use Rattle.types.specs.Tables.{Tables, stubbed}
 
--- nothing is known of any name below a number
-abbrev pub nothing_known : ℕ → Tables
-nothing_known bound =
+-- nothing is known of any name below a number, and there is room for so many generic aliases and pairs
+abbrev pub nothing_known : ℕ → ℕ → Tables
+nothing_known bound room =
     record {
       bound = bound;
+      room = room;
       types = 0;
       next = 0;
       numbers = replicate bound None;
@@ -33,7 +34,7 @@ marked s name =
 abbrev pub with_generic : Tables → ℕ → Generic → Tables
 with_generic s name g =
     record (stubbed s name) {
-      generics = if nat_lt (length s.generics) s.bound then s.generics ++ g ∷ [] else s.generics;
+      generics = if nat_lt (length s.generics) s.room then s.generics ++ g ∷ [] else s.generics;
     }
 
 -- a declaration, by its kind: messages, unions and newtypes have the next number, and ambiguous names are marked

@@ -71,7 +71,7 @@ pub record Knows (book : Book) (c : Tables) (k : Names) (rs : List Record) : Typ
   pub ambiguous_are : (n : ℕ) → is_marked c n ≡ is_ambiguous book n
   pub generics_are : (m : ℕ) → option_of generic_of (generic_in c m) ≡ entry m (generics_of book)
   -- there is room for a pair more at each record that none is met at
-  pub pairs_room : length c.pairs + length (keep (is_unmet k.pairs) book.records) ≤ c.bound
+  pub pairs_room : length c.pairs + length (keep (is_unmet k.pairs) book.records) ≤ c.room
   pub pairs_are : map pair_of c.pairs ≡ k.pairs
   pub aliases_are : (n : ℕ) → IsAlias rs (alias_in c n) (alias_of k n)
   pub uses_below : (m : ℕ) → is_kind 4 (book ! m) ≡ true → (book ! m).a < c.bound

@@ -8,8 +8,10 @@ use Rattle.types.specs.declared.names.Pair.{Pair}
 use Rattle.types.specs.declared.names.Generic.{Generic}
 
 pub record Tables : Type 0 where
-  -- there is an entry for the names below, and room for so many generic aliases and pairs
+  -- there is an entry for the names below
   pub bound : ℕ
+  -- there is room for so many generic aliases, and for so many pairs
+  pub room : ℕ
   -- messages, unions and newtypes have the numbers below
   pub types : ℕ
   -- the number that is given next
@@ -20,10 +22,11 @@ pub record Tables : Type 0 where
   pub generics : List Generic
   pub pairs : List Pair
 
-abbrev pub tables : (N : ℕ) → Names N → Tables
-tables N s =
+abbrev pub tables : (N P : ℕ) → Names N P → Tables
+tables N P s =
     record {
       bound = N;
+      room = P;
       types = s.types;
       next = s.next;
       numbers = s.numbers;
@@ -80,7 +83,7 @@ paired s space name =
     record s {
       next = after_next s;
       pairs =
-          if nat_lt (length s.pairs) s.bound
+          if nat_lt (length s.pairs) s.room
           then s.pairs ++ record { space = space; name = name; number = type_id s.next } ∷ []
           else s.pairs;
     }

@@ -18,11 +18,11 @@ fn lowered_alias(item: &Record, root: u16) -> Record
     Record::bare(Kind::LoweredAlias, 0, item.a, root, 0).with_span(item.span)
 }
 
-impl<'b, 'n, 'r, 'd, const N: usize> Lowering<'b, 'n, 'r, 'd, N> {
+impl<'b, 'n, 'r, 'd, const N: usize, const R: usize> Lowering<'b, 'n, 'r, 'd, N, R> {
     // Lowers the plain alias at record `n`.
     #[tactic(auto, unfolding(crate::specs::PlainAliases::lower_alias))]
     fn lower_alias(&mut self, n: u16) -> Result<(), Refusal>
-        ensures { Steps N self.old self.new result (plain.lower_alias n) }
+        ensures { Steps N R self.old self.new result (plain.lower_alias n) }
     {
         let item = self.book.record(n);
         let first = self.result_count();
@@ -36,7 +36,7 @@ impl<'b, 'n, 'r, 'd, const N: usize> Lowering<'b, 'n, 'r, 'd, N> {
     /// Lowers the plain aliases among some declarations.
     #[tactic(auto, using(crate::proofs::AliasSteps::alias_steps))]
     pub fn lower_aliases(&mut self, declarations: &[u16]) -> Result<(), Refusal>
-        ensures { Steps N self.old self.new result (plain.lower_aliases declarations.now) }
+        ensures { Steps N R self.old self.new result (plain.lower_aliases declarations.now) }
     {
         for n in declarations {
             if is_plain_alias(self.book, *n) {

@@ -10,6 +10,7 @@ pub mod names;
 pub mod registry;
 pub mod resolver;
 pub mod room;
+pub mod spot;
 
 /// The most results that are written.
 pub const MOST_RESULTS: u16 = 2048;

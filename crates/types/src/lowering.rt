@@ -23,9 +23,9 @@ use record::{Record, Span};
 /// All that a lowering reads and writes. The slices stand beside their cursors: a struct over a slice that is changed
 /// tells its lender nothing of what the slice holds at the end.
 #[derive(Drop)]
-pub struct Lowering<'b, 'n, 'r, 'd, const N: usize> {
+pub struct Lowering<'b, 'n, 'r, 'd, const N: usize, const R: usize> {
     pub book: &'b Book<'b>,
-    pub names: &'n mut Names<N>,
+    pub names: &'n mut Names<N, R>,
     pub results: &'r mut [u8],
     pub written: Cursor,
     pub diagnostics: &'d mut [u8],
@@ -91,32 +91,33 @@ pub(crate) fn type_expr(r: &Record) -> TypeExpr
 }
 
 // A record of a type, so much further on: its references move along.
-fn shifted(r: &Record, by: u16) -> Record
-    ensures { result ≡ code.shifted by r.now (kind_from r.now.kind) }
+#[inline(always)]
+fn shifted(r: Record, by: u16) -> Record
+    ensures { result ≡ code.shifted by r (kind_from r.kind) }
 {
     match r.kind() {
         Ok(Kind::OverOne) => Record {
             a: r.a.saturating_add(by),
-            ..*r
+            ..r
         },
         Ok(Kind::OverTwo) => Record {
             a: r.a.saturating_add(by),
             b: r.b.saturating_add(by),
-            ..*r
+            ..r
         },
-        _ => *r,
+        _ => r,
     }
 }
 
-impl<'b, 'n, 'r, 'd, const N: usize> Lowering<'b, 'n, 'r, 'd, N> {
+impl<'b, 'n, 'r, 'd, const N: usize, const R: usize> Lowering<'b, 'n, 'r, 'd, N, R> {
     /// With nothing written, and nothing being lowered.
     pub fn new(
         book: &'b Book<'b>,
-        names: &'n mut Names<N>,
+        names: &'n mut Names<N, R>,
         results: &'r mut [u8],
         diagnostics: &'d mut [u8],
     ) -> Self
-        ensures state { state_of N result ≡ begun book.now (tables N names.old) results.old diagnostics.old }
+        ensures state { state_of N R result ≡ begun book.now (tables N R names.old) results.old diagnostics.old }
         ensures names { result.names.ghost_name ≡ names.entry.ghost_name }
         ensures results { result.results.ghost_name ≡ results.entry.ghost_name }
         ensures diagnostics { result.diagnostics.ghost_name ≡ diagnostics.entry.ghost_name }
@@ -151,7 +152,7 @@ impl<'b, 'n, 'r, 'd, const N: usize> Lowering<'b, 'n, 'r, 'd, N> {
     /// Writes a result; its number.
     #[tactic(auto, unfolding(crate::specs::Code::emit))]
     pub fn emit(&mut self, item: &Record) -> Result<u16, Refusal>
-        ensures { Steps N self.old self.new result (code.emit item.now) }
+        ensures { Steps N R self.old self.new result (code.emit item.now) }
     {
         let full = self.refusal(Cause::Full);
         self.written
@@ -170,7 +171,7 @@ impl<'b, 'n, 'r, 'd, const N: usize> Lowering<'b, 'n, 'r, 'd, N> {
         b: u16,
         v: u64,
     ) -> Result<u16, Refusal>
-        ensures { Steps N self.old self.new result (code.emit (bare_record kind sub a b v)) }
+        ensures { Steps N R self.old self.new result (code.emit (bare_record kind sub a b v)) }
     {
         self.emit(&Record::bare(kind, sub, a, b, v))
     }
@@ -178,7 +179,7 @@ impl<'b, 'n, 'r, 'd, const N: usize> Lowering<'b, 'n, 'r, 'd, N> {
     /// Writes a diagnostic.
     #[tactic(auto, unfolding(crate::specs::Code::tell))]
     pub fn tell(&mut self, item: &Record) -> Result<u16, Refusal>
-        ensures { Steps N self.old self.new result (code.tell item.now) }
+        ensures { Steps N R self.old self.new result (code.tell item.now) }
     {
         let full = self.refusal(Cause::Full);
         self.told
@@ -195,7 +196,7 @@ impl<'b, 'n, 'r, 'd, const N: usize> Lowering<'b, 'n, 'r, 'd, N> {
         b: u16,
         span: Span,
     ) -> Result<u16, Refusal>
-        ensures { Steps N self.old self.new result
+        ensures { Steps N R self.old self.new result
             (code.poison (message_number message) a b (class_number (message_class message)) span) }
     {
         self.tell(&message.record(a, b, span))?;
@@ -205,32 +206,35 @@ impl<'b, 'n, 'r, 'd, const N: usize> Lowering<'b, 'n, 'r, 'd, N> {
     /// How many results are written.
     #[tactic(auto, unfolding(record::specs::Written::shown))]
     pub fn result_count(&self) -> u16
-        ensures { result ≡ (state_of N self.now).results.count }
+        ensures { result ≡ (state_of N R self.now).results.count }
     {
         self.written.count
     }
 
     /// Result `n`, if it is written.
     pub fn result_at(&self, n: u16) -> Option<Record>
-        ensures { result ≡ read_at (state_of N self.now).results n }
+        ensures { result ≡ read_at (state_of N R self.now).results n }
     {
         self.written.get(self.results, n)
     }
 
-    // Copies record `at` of a type so much further on.
+    // Copies record `at` of a type so much further on. It stands in its caller for speed: as a call a copied record
+    // took half as many instructions again.
+    #[inline(always)]
     #[tactic(auto, unfolding(crate::specs::Code::copy_one))]
     fn copy_one(&mut self, at: u16, by: u16) -> Result<u16, Refusal>
-        ensures { Steps N self.old self.new result (code.copy_one at by) }
+        ensures { Steps N R self.old self.new result (code.copy_one at by) }
     {
-        let full = self.refusal(Cause::Full);
-        let r = self.result_at(at).ok_or(full)?;
-        self.emit(&shifted(&r, by))
+        match self.result_at(at) {
+            Some(r) => self.emit(&shifted(r, by)),
+            None => Err(self.refusal(Cause::Full)),
+        }
     }
 
     // Copies the type that stands at a place; the number of its root.
     #[tactic(auto, using(crate::proofs::Copies::copies), unfolding(crate::specs::Code::copy_type))]
     fn copy_type(&mut self, place: Place) -> Result<u16, Refusal>
-        ensures { Steps N self.old self.new result (code.copy_type place) }
+        ensures { Steps N R self.old self.new result (code.copy_type place) }
     {
         let by = self.result_count().saturating_sub(place.first);
         for at in place.first..place.root {
@@ -241,7 +245,7 @@ impl<'b, 'n, 'r, 'd, const N: usize> Lowering<'b, 'n, 'r, 'd, N> {
 
     // The number of a name: its own, or that of a plain alias to one, which a result record has in 64 bits.
     fn look_up(&self, name: u16) -> Option<u64>
-        ensures { result ≡ code.look_up name (state_of N self.now) }
+        ensures { result ≡ code.look_up name (state_of N R self.now) }
     {
         if let Some(number) = self.names.number_of(name) {
             return Some(u64::from(number.0));
@@ -256,7 +260,7 @@ impl<'b, 'n, 'r, 'd, const N: usize> Lowering<'b, 'n, 'r, 'd, N> {
 
     // What a name is found to be.
     fn find_name(&self, name: u16) -> Found
-        ensures { result ≡ code.find_name name (state_of N self.now) }
+        ensures { result ≡ code.find_name name (state_of N R self.now) }
     {
         if let Some(place) = self.names.alias_of(name) {
             return Found::Alias(place);
@@ -279,7 +283,7 @@ impl<'b, 'n, 'r, 'd, const N: usize> Lowering<'b, 'n, 'r, 'd, N> {
 
     // What the head of a generic is found to be.
     pub(crate) fn find_head(&self, name: u16) -> Head
-        ensures { result ≡ code.find_head name (state_of N self.now) }
+        ensures { result ≡ code.find_head name (state_of N R self.now) }
     {
         match self.look_up(name) {
             None => Head::NoNumber,
@@ -293,7 +297,7 @@ impl<'b, 'n, 'r, 'd, const N: usize> Lowering<'b, 'n, 'r, 'd, N> {
     // A stub for a name.
     #[tactic(auto, unfolding(crate::specs::Code::add_stub))]
     pub(crate) fn add_stub(&mut self, name: u16) -> Result<u16, Refusal>
-        ensures { Steps N self.old self.new result (code.add_stub name) }
+        ensures { Steps N R self.old self.new result (code.add_stub name) }
     {
         let root = self.emit(&named(TypeId(self.names.next)))?;
         self.names.give_number(name);
@@ -303,7 +307,7 @@ impl<'b, 'n, 'r, 'd, const N: usize> Lowering<'b, 'n, 'r, 'd, N> {
     // A stub for a qualified name.
     #[tactic(auto, unfolding(crate::specs::Code::add_pair))]
     fn add_pair(&mut self, space: u16, name: u16) -> Result<u16, Refusal>
-        ensures { Steps N self.old self.new result (code.add_pair space name) }
+        ensures { Steps N R self.old self.new result (code.add_pair space name) }
     {
         let root = self.emit(&named(TypeId(self.names.next)))?;
         self.names.add_pair(space, name);
@@ -313,7 +317,7 @@ impl<'b, 'n, 'r, 'd, const N: usize> Lowering<'b, 'n, 'r, 'd, N> {
     // The type that a name is.
     #[tactic(auto, unfolding(crate::specs::Code::resolve_name))]
     pub(crate) fn resolve_name(&mut self, name: u16, span: Span) -> Result<u16, Refusal>
-        ensures { Steps N self.old self.new result (code.resolve_name name span) }
+        ensures { Steps N R self.old self.new result (code.resolve_name name span) }
     {
         match self.find_name(name) {
             Found::Alias(place) => self.copy_type(place),
@@ -331,7 +335,7 @@ impl<'b, 'n, 'r, 'd, const N: usize> Lowering<'b, 'n, 'r, 'd, N> {
         name: u16,
         span: Span,
     ) -> Result<u16, Refusal>
-        ensures { Steps N self.old self.new result (code.resolve_qualified space name span) }
+        ensures { Steps N R self.old self.new result (code.resolve_qualified space name span) }
     {
         if let Some(number) = self.names.pair_number(space, name) {
             return self.emit(&named(number));

@@ -1,6 +1,6 @@
 //! What is known of names while a book is lowered.
 
-ghost use Rattle.std.specs.Prelude.{◌≤◌};
+ghost use Rattle.std.specs.Prelude.{◌≤◌, ◌^◌};
 
 use arrayvec::ArrayVec;
 use book::by_name;
@@ -45,11 +45,12 @@ impl Default for Pair {
     }
 }
 
-/// What is known of names, in a book of at most `N` records whose names are below `N`. Three arrays by name, since each
-/// is read and written by itself: one of a struct of the three would be no plainer, and its entries take more room than
-/// theirs, all of which is cleared for each book. Pairs are a list that is looked through, since nothing is allocated.
+/// What is known of names below `N`, with room for `R` generic aliases and pairs: a book has no more of either than
+/// records. Three arrays by name, since each is read and written by itself: one of a struct of the three would be no
+/// plainer, and its entries take more room than theirs, all of which is cleared for each book. Pairs are a list that is
+/// looked through, since nothing is allocated.
 #[derive(Drop)]
-pub struct Names<const N: usize> {
+pub struct Names<const N: usize, const R: usize> {
     /// Messages, unions and newtypes have the numbers below, generic aliases the ones from there on.
     pub types: u32,
     /// The number that is given next.
@@ -58,12 +59,12 @@ pub struct Names<const N: usize> {
     pub aliases: [Option<Place>; N],
     pub ambiguous: [bool; N],
     /// By their numbers, from `types` on.
-    pub generics: ArrayVec<Generic, N>,
-    pub pairs: ArrayVec<Pair, N>,
-    ghost few: { N ≤ 4096 },
+    pub generics: ArrayVec<Generic, R>,
+    pub pairs: ArrayVec<Pair, R>,
+    ghost few: { (N ≤ 2 ^ 32) × (R ≤ 2 ^ 32) },
 }
 
-impl<const N: usize> Names<N> {
+impl<const N: usize, const R: usize> Names<N, R> {
     ghost use Rattle.std.specs.Prelude.{◌≡◌};
     ghost use Rattle.types.specs.Tables.{tables, number_in, alias_in, is_marked, pair_in, generic_in};
     ghost use Rattle.types.specs.Tables.{stubbed, paired, aliased};
@@ -71,8 +72,8 @@ impl<const N: usize> Names<N> {
 
     /// With nothing known.
     pub fn new() -> Self
-        requires { N ≤ 4096 }
-        ensures { tables N result ≡ nothing_known N }
+        requires { (N ≤ 2 ^ 32) × (R ≤ 2 ^ 32) }
+        ensures { tables N R result ≡ nothing_known N R }
     {
         Names {
             types: 0,
@@ -87,21 +88,21 @@ impl<const N: usize> Names<N> {
 
     // The name's own number.
     pub(crate) fn number_of(&self, name: u16) -> Option<TypeId>
-        ensures { result ≡ number_in (tables N self.now) name }
+        ensures { result ≡ number_in (tables N R self.now) name }
     {
         self.numbers.get(usize::from(name)).copied().flatten()
     }
 
     // Where the type of a plain alias stands.
     pub(crate) fn alias_of(&self, name: u16) -> Option<Place>
-        ensures { result ≡ alias_in (tables N self.now) name }
+        ensures { result ≡ alias_in (tables N R self.now) name }
     {
         self.aliases.get(usize::from(name)).copied().flatten()
     }
 
     // Whether the name is ambiguous between wildcard imports.
     pub(crate) fn is_ambiguous(&self, name: u16) -> bool
-        ensures { result ≡ is_marked (tables N self.now) name }
+        ensures { result ≡ is_marked (tables N R self.now) name }
     {
         self.ambiguous
             .get(usize::from(name))
@@ -111,7 +112,7 @@ impl<const N: usize> Names<N> {
 
     // The number of a qualified name.
     pub(crate) fn pair_number(&self, space: u16, name: u16) -> Option<TypeId>
-        ensures { result ≡ pair_in (tables N self.now) space name }
+        ensures { result ≡ pair_in (tables N R self.now) space name }
     {
         // The names first, since more of them differ.
         self.pairs
@@ -122,7 +123,7 @@ impl<const N: usize> Names<N> {
 
     // The generic alias with a number, which a result record has in 64 bits.
     pub(crate) fn generic_of(&self, number: u64) -> Option<Generic>
-        ensures { result ≡ generic_in (tables N self.now) number }
+        ensures { result ≡ generic_in (tables N R self.now) number }
     {
         let types = u64::from(self.types);
         if number < types {
@@ -133,7 +134,7 @@ impl<const N: usize> Names<N> {
 
     // Gives the next number to a name.
     pub(crate) fn give_number(&mut self, name: u16)
-        ensures { tables N self.new ≡ stubbed (tables N self.old) name }
+        ensures { tables N R self.new ≡ stubbed (tables N R self.old) name }
     {
         by_name::put(&mut self.numbers, name, Some(TypeId(self.next)));
         self.next = self.next.saturating_add(1);
@@ -141,14 +142,14 @@ impl<const N: usize> Names<N> {
 
     // The name is ambiguous between wildcard imports.
     pub(crate) fn mark_ambiguous(&mut self, name: u16)
-        ensures { tables N self.new ≡ marked (tables N self.old) name }
+        ensures { tables N R self.new ≡ marked (tables N R self.old) name }
     {
         by_name::put(&mut self.ambiguous, name, true);
     }
 
     // Gives the next number to a generic alias.
     pub(crate) fn add_generic(&mut self, name: u16, generic: Generic)
-        ensures { tables N self.new ≡ with_generic (tables N self.old) name generic }
+        ensures { tables N R self.new ≡ with_generic (tables N R self.old) name generic }
     {
         if !self.generics.is_full() {
             self.generics.push(generic);
@@ -158,7 +159,7 @@ impl<const N: usize> Names<N> {
 
     // Gives the next number to a qualified name.
     pub(crate) fn add_pair(&mut self, space: u16, name: u16)
-        ensures { tables N self.new ≡ paired (tables N self.old) space name }
+        ensures { tables N R self.new ≡ paired (tables N R self.old) space name }
     {
         if !self.pairs.is_full() {
             self.pairs.push(Pair {
@@ -172,7 +173,7 @@ impl<const N: usize> Names<N> {
 
     // A plain alias is lowered.
     pub(crate) fn add_alias(&mut self, name: u16, place: Place)
-        ensures { tables N self.new ≡ aliased (tables N self.old) name place }
+        ensures { tables N R self.new ≡ aliased (tables N R self.old) name place }
     {
         by_name::put(&mut self.aliases, name, Some(place));
     }

@@ -57,10 +57,10 @@ pub(crate) fn is_plain_alias(book: &Book<'_>, n: u16) -> bool
     }
 }
 
-impl<const N: usize> Names<N> {
+impl<const N: usize, const R: usize> Names<N, R> {
     // Numbers a message, a union or a newtype, and marks a name that is ambiguous.
     fn register_type(&mut self, book: &Book<'_>, n: u16)
-        ensures { tables N self.new ≡ with_type (book.now ! n) (kind_from (book.now ! n).kind) (tables N self.old) }
+        ensures { tables N R self.new ≡ with_type (book.now ! n) (kind_from (book.now ! n).kind) (tables N R self.old) }
     {
         let item = book.record(n);
         match item.kind() {
@@ -74,7 +74,7 @@ impl<const N: usize> Names<N> {
     // for both would take the step as a closure over the names.
     #[tactic(auto, using(crate::proofs::Registers::types_step))]
     fn register_types(&mut self, book: &Book<'_>, declarations: &[u16])
-        ensures { tables N self.new ≡ with_types book.now declarations.now (tables N self.old) }
+        ensures { tables N R self.new ≡ with_types book.now declarations.now (tables N R self.old) }
     {
         for n in declarations {
             self.register_type(book, *n);
@@ -83,8 +83,8 @@ impl<const N: usize> Names<N> {
 
     // Numbers a generic alias.
     fn register_alias(&mut self, book: &Book<'_>, n: u16)
-        ensures { tables N self.new
-            ≡ with_alias (book.now ! n) (kind_from (book.now ! n).kind) (parameter_behind book.now n) (tables N self.old) }
+        ensures { tables N R self.new
+            ≡ with_alias (book.now ! n) (kind_from (book.now ! n).kind) (parameter_behind book.now n) (tables N R self.old) }
     {
         let item = book.record(n);
         if let Ok(Kind::Alias) = item.kind() {
@@ -103,7 +103,7 @@ impl<const N: usize> Names<N> {
     // The same for some declarations.
     #[tactic(auto, using(crate::proofs::Registers::aliases_step))]
     fn register_aliases(&mut self, book: &Book<'_>, declarations: &[u16])
-        ensures { tables N self.new ≡ with_aliases book.now declarations.now (tables N self.old) }
+        ensures { tables N R self.new ≡ with_aliases book.now declarations.now (tables N R self.old) }
     {
         for n in declarations {
             self.register_alias(book, *n);
@@ -112,7 +112,7 @@ impl<const N: usize> Names<N> {
 
     /// Numbers the declarations of a book and marks the names that are ambiguous.
     pub fn register(&mut self, book: &Book<'_>, declarations: &[u16])
-        ensures { tables N self.new ≡ registered book.now declarations.now (tables N self.old) }
+        ensures { tables N R self.new ≡ registered book.now declarations.now (tables N R self.old) }
     {
         self.register_types(book, declarations);
         self.types = self.next;

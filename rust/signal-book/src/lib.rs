@@ -92,7 +92,7 @@ impl<'a> Accepted<'a> {
 /// Lowers a book, whatever its bytes are, into two slices of any lengths. Slices of [`RESULTS_LIMIT`] and
 /// [`DIAGNOSTICS_LIMIT`] bytes are enough for every book; with shorter ones it may be refused by cause 10.
 ///
-/// It takes some 181,000 bytes of stack and no other memory, keeps nothing, and may be called from several threads at once.
+/// It takes some 158,000 bytes of stack and no other memory, keeps nothing, and may be called from several threads at once.
 pub fn lower<'a>(book: &[u8], results: &'a mut [u8], diagnostics: &'a mut [u8]) -> Result<Accepted<'a>, Refused> {
     let reply = sys::lower_words(book, results, diagnostics);
     // Every count and place of a reply is below 2,049.

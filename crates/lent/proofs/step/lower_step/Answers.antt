@@ -10,12 +10,12 @@ use Rattle.lower.specs.Counters.{counters_after}
 use Rattle.lent.specs.Lent.{bytes_for}
 use Rattle.lent.proofs.Stepping.{Lowers, step_few, stepped, zeros_for}
 use Rattle.lent.proofs.step.lower_step.Goals as goal
-use Rattle.lent.proofs.step.lower_step.Goals.{After-front_length}
+use Rattle.lent.proofs.step.lower_step.Goals.{After-front_length-n}
 
 lowers_here :
-    (w : After-front_length) →
+    (w : After-front_length-n) →
     let a = w.args in
-    Lowers a.ctx a.book.now a.results.now a.room w.lower_counted-reply.result w.lower_counted-reply.new.results w.lower_counted-reply.new.diagnostics w.front_length.result
+    Lowers a.ctx a.book.now a.results.now a.room w.lower_counted-reply.result w.lower_counted-reply.new.results w.lower_counted-reply.new.diagnostics w.front_length-n.result
 lowers_here w =
     let a = w.args in
     let n = w.min.result in
@@ -25,11 +25,11 @@ lowers_here w =
       bytes = record { byte = λ i. (w.type_inv.book i).fits };
       lowers = w.lower_counted-reply.ensures.lowered ∙ ap (λ (d : List ℕ). lower_book a.book.now a.results.now d) zeros;
       counters = w.lower_counted-reply.ensures.ctx_value ∙ ap (λ (d : List ℕ). counters_after a.ctx a.book.now a.results.now d) zeros;
-      count = w.front_length.ensures;
+      count = w.front_length-n.ensures;
     }
 
 pub structs-requires : goal.structs-requires
-structs-requires c = step_few (lowers_here c)
+structs-requires c = step_few (lowers_here (goal.at.structs-requires c).After-front_length-n)
 
 pub returns : goal.returns
-returns c = stepped (lowers_here (goal.at.returns c).After-front_length) _ c.structs.ensures
+returns c = rw c.from.ensures (stepped (lowers_here (goal.at.returns c).After-front_length-n) _ c.structs.ensures)

@@ -1,11 +1,13 @@
 -- `book::readable::Book::read` meets its contract: the length, then the blocks, then the records, each by a law of
 -- proofs/Answers.antt.
 -- Assumes nothing.
-use Rattle.std.proofs.Common.{refl}
+use Rattle.std.proofs.Common.{refl, ap, subst, ◌∙◌, ◌≤◌, ℕ}
+use Rattle.std.specs.Prelude.{Ok}
 use Rattle.std.proofs.lemmas.Result.{err_from_is_err_and}
 use Rattle.book.specs.Answer.{outcome}
 use Rattle.book.proofs.Accepted.{accepted_is_readable}
 use Rattle.book.proofs.Answers.{by_length, book_refused, refused_in_blocks, refused_in_records, counted_at, none_refused, none_there, book_read}
+use Rattle.book.proofs.Cuts.{whole_same}
 use Rattle.book.proofs.readable.Book.read.Goals as goal
 
 pub returns-in_err-blocks-clause-answer : goal.returns-in_err-blocks-clause-answer
@@ -39,16 +41,17 @@ invariant_of-result c =
     let passed = rw same at c.in_ok-check.ensures in
     let counted = rw same at c.record_count-count.ensures in
     record {
+      whole = c.args.bytes.now;
       readable = accepted_is_readable c.args.bytes.now (none_refused c.args.bytes.now right passed counted c.in_ok-check_records.ensures);
-      counted = counted;
-      wild = rw same at c.wildcards.ensures;
-      absent = none_there c.args.bytes.now right passed;
+      same = whole_same c.args.bytes.now counted (rw same at c.wildcards.ensures);
+      absent = λ n past. none_there c.args.bytes.now right passed n (subst (λ (m : ℕ). m ≤ n) counted past);
     }
 
 pub returns-clause-answer : goal.returns-clause-answer
 returns-clause-answer c =
     let (same, right) = c.in_ok-blocks.ensures.right in
-    book_read c.args.bytes.now
+    ap Ok (whole_same c.args.bytes.now (rw same at c.record_count-count.ensures) (rw same at c.wildcards.ensures))
+    ∙ book_read c.args.bytes.now
     (none_refused c.args.bytes.now right (rw same at c.in_ok-check.ensures) (rw same at c.record_count-count.ensures) c.in_ok-check_records.ensures)
 
 pub returns-clause-readable : goal.returns-clause-readable

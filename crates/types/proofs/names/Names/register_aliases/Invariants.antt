@@ -5,5 +5,5 @@ use Rattle.types.proofs.names.Names.register_aliases.Given as goal
 
 abbrev pub invariant-loop-n : goal.invariant-loop-n
 invariant-loop-n g l =
-    with_aliases l.book (drop l.n-index l.declarations) (tables g.row.N l.self)
-    ≡ with_aliases l.book l.declarations (tables g.row.N l.initial.self)
+    with_aliases l.book (drop l.n-index l.declarations) (tables g.row.N g.row.R l.self)
+    ≡ with_aliases l.book l.declarations (tables g.row.N g.row.R l.initial.self)
