@@ -20,12 +20,13 @@ use Rattle.book.specs.Refusal.{Cause, Refusal, book_length, at, at_block, at_rec
 use Rattle.book.specs.Refusal as cause
 use Rattle.book.specs.Answer.{accepted, answer_by, read_book}
 use Rattle.book.specs.First.{has_place}
+use Rattle.book.specs.Accepted.{Kept}
 use Rattle.book.specs.Trees.{IsChild, IsRecord, InRange, Readable, AcceptedIsReadable, ReadIsReadable}
 use Rattle.book.proofs.First.{passed_by_all}
 use Rattle.book.proofs.Lists.{all_append}
 use Rattle.book.proofs.Records.{records-length, record_here}
 use Rattle.book.proofs.Trees.{not_so, both_not, both_so, none_passes}
-use Rattle.book.proofs.Answers.{some_blocks, by_parts, last_few, counted}
+use Rattle.book.proofs.Answers.{some_blocks, by_parts, last_few, absent, counted}
 
 -- names that a field allows are below 4,096
 named_in : (f : Field) (x : ℕ) → allows f x ≡ true → All (λ x. x < 4096) (name_in f x)
@@ -143,6 +144,18 @@ accepted_is_readable book e =
       counted = records-length book;
       in_range = in_range book e;
       well_formed = is_record book e;
+    }
+
+-- and what reading keeps of such bytes
+pub kept_of :
+    (book : List ℕ) → first_refusal book ≡ none → {count : ℕ} {wild : Bool} → count ≡ record_count book → wild ≡ wildcards book →
+    Kept book count wild
+kept_of book e is of_book =
+    record {
+      readable = accepted_is_readable book e;
+      counted = is;
+      wild = of_book;
+      absent = absent book (right book e) (none_in_blocks book e);
     }
 
 pub read_is_readable : ReadIsReadable

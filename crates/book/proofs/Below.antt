@@ -21,7 +21,8 @@ use Rattle.book.specs.Blocks.{record_count, records}
 use Rattle.book.specs.Faults.{record_of}
 use Rattle.book.specs.Outline.{Book, read, ◌!◌}
 use Rattle.book.specs.Trees.{IsChild, IsRecord, Readable}
-use Rattle.book.specs.Accepted.{blank, book_in, Kept, IsRead, Earlier}
+use Rattle.book.specs.Accepted.{blank, book_in, Kept, Held, IsRead, Earlier}
+use Rattle.book.proofs.Cuts.{whole_same, whole_held}
 use Rattle.book.proofs.Lists.{from-length}
 use Rattle.book.proofs.Members.{Found, found, first_mem, of_all, all_of, at_from}
 use Rattle.book.proofs.Records.{at_map}
@@ -227,6 +228,10 @@ module _ (bytes : List ℕ) (readable : Readable bytes) where
         well_formed = readable.well_formed;
       }
 
+  pub counted : (count : ℕ) → count ≡ record_count bytes → count ≡ length (read bytes).records
+  unfolding read
+  counted count is = is ∙ sym readable.counted
+
   record_absent : (n : ℕ) → record_count bytes ≤ n → blank ≡ read bytes ! n
   unfolding read record_of
   record_absent n past = sym (get_or_past (records bytes) n blank (omega (arith, readable.counted)))
@@ -244,33 +249,41 @@ module _ (bytes : List ℕ) (readable : Readable bytes) where
           are_earlier n r h.shaped
           (all_of (λ (c : Child). c.number < n) (children r) (λ c m. (of_all (IsChild (records bytes) n) (children r) h.children_are c m).earlier))
 
--- how many records are kept
-pub counted : (bytes : List ℕ) (count : ℕ) (wildcards : Bool) → count ≡ length (book_in bytes count wildcards).records
+-- how many records are held
+pub counted_in : (bytes : List ℕ) (count : ℕ) (wildcards : Bool) → count ≡ length (book_in bytes count wildcards).records
 unfolding book_in
-counted bytes count wildcards = sym (length-map (up_to count) (record_at bytes) ∙ from-length 0 count)
+counted_in bytes count wildcards = sym (length-map (up_to count) (record_at bytes) ∙ from-length 0 count)
 
 -- the record that stands at a place, if one does, and none past the last
-module _ {bytes : List ℕ} {count : ℕ} {wildcards : Bool} (kept : Kept bytes count wildcards) where
-  pub kept_is_read : IsRead (book_in bytes count wildcards)
-  kept_is_read = subst IsRead (sym kept.same) (is_read kept.whole kept.readable)
+module _ {bytes : List ℕ} {count : ℕ} {wildcards : Bool} (held : Held bytes count wildcards) where
+  pub held_is_read : IsRead (book_in bytes count wildcards)
+  held_is_read = subst IsRead (sym held.same) (is_read held.whole held.readable)
 
   module _ (n : ℕ) where
-    pub record_is : record_at bytes n ≡ book_in bytes count wildcards ! n
+    pub held_is : record_at bytes n ≡ book_in bytes count wildcards ! n
     unfolding book_in record_of
-    record_is = go (leb count n) refl
+    held_is = go (leb count n) refl
       where
         many : length (up_to count) ≡ count
         many = from-length 0 count
 
         go : (b : Bool) → leb count n ≡ b → record_at bytes n ≡ book_in bytes count wildcards ! n
         go true t =
-            kept.absent n (leb-true _ _ t)
+            held.absent n (leb-true _ _ t)
             ∙ sym (get_or_past (map (record_at bytes) (up_to count)) n blank (omega (arith, length-map (up_to count) (record_at bytes), many, leb-true _ _ t)))
         go false t =
             let less : n < count = leb-false _ _ t in
             sym (at_map (record_at bytes) (up_to count) n 0 blank (omega (arith, many)) ∙ ap (record_at bytes) (at_from 0 count n 0 less ∙ omega arith))
 
-    pub record_earlier : Earlier n (record_at bytes n)
-    record_earlier =
-        subst (Earlier n) (sym record_is)
-        (subst (λ (b : Book). Earlier n (b ! n)) (sym kept.same) (earlier kept.whole kept.readable n))
+    pub held_earlier : Earlier n (record_at bytes n)
+    held_earlier =
+        subst (Earlier n) (sym held_is)
+        (subst (λ (b : Book). Earlier n (b ! n)) (sym held.same) (earlier held.whole held.readable n))
+
+-- and in the bytes that are read
+module _ {bytes : List ℕ} {count : ℕ} {wildcards : Bool} (kept : Kept bytes count wildcards) (n : ℕ) where
+  pub record_is : record_at bytes n ≡ read bytes ! n
+  record_is = held_is (whole_held kept) n ∙ ap (λ (b : Book). b ! n) (whole_same bytes kept.counted kept.wild)
+
+  pub record_earlier : Earlier n (record_at bytes n)
+  record_earlier = held_earlier (whole_held kept) n

@@ -14,7 +14,7 @@ use Rattle.book.specs.Blocks as of
 use Rattle.book.specs.Blocks.{record_count, records}
 use Rattle.book.specs.Outline.{Book, read}
 use Rattle.book.specs.Trees.{Readable}
-use Rattle.book.specs.Accepted.{blank, book_in, Kept}
+use Rattle.book.specs.Accepted.{blank, book_in, Kept, Held}
 use Rattle.book.proofs.Members.{mem_up_to}
 
 -- what agrees on the elements of a list gives the same list
@@ -23,12 +23,12 @@ map_agree f g [] same = refl
 map_agree f g (n ∷ l) same = λ i. same n (Memᴰ.head refl) i ∷ map_agree f g l (λ m there. same m (Memᴰ.tail there)) i
 
 module _ (bytes : List ℕ) {count : ℕ} {wildcards : Bool} (counted : count ≡ record_count bytes) (wild : wildcards ≡ of.wildcards bytes) where
-  -- all of the bytes are kept
+  -- all of the bytes are held
   pub whole_same : book_in bytes count wildcards ≡ read bytes
   unfolding book_in read records
   whole_same = λ i. record { records = map (record_at bytes) (up_to (counted i)); wildcards = wild i }
 
-  -- their front is kept
+  -- their front is held
   module _ {end : ℕ} (end_is : end ≡ 512 * ((count - 1) / 21) + 4 + 24 * ((count - 1) % 21) + 24) where
     same_at : (p : ℕ) → p + 24 ≤ end → decode_record (drop p (take end bytes)) ≡ decode_record (drop p bytes)
     same_at p fits =
@@ -67,8 +67,8 @@ module _ (bytes : List ℕ) {count : ℕ} {wildcards : Bool} (counted : count �
     pub front_is : book_in (take end bytes) count wildcards ≡ read bytes
     front_is = front_same ∙ whole_same
 
-    pub front_kept : Readable bytes → Kept (take end bytes) count wildcards
-    front_kept readable =
+    pub front_held : Readable bytes → Held (take end bytes) count wildcards
+    front_held readable =
         record {
           whole = bytes;
           readable = readable;
@@ -79,3 +79,13 @@ module _ (bytes : List ℕ) {count : ℕ} {wildcards : Bool} (counted : count �
     -- and all of it is there
     pub front_there : Readable bytes → end ≤ length bytes
     front_there readable = omega (arith, (readable.in_range (count - 1) (omega (arith, readable.some_records))).inside)
+
+-- what is kept of bytes is held of them, and the book is the one that they are read as
+pub whole_held : {bytes : List ℕ} {count : ℕ} {wildcards : Bool} → Kept bytes count wildcards → Held bytes count wildcards
+whole_held {bytes} kept =
+    record {
+      whole = bytes;
+      readable = kept.readable;
+      same = whole_same bytes kept.counted kept.wild;
+      absent = λ n past. kept.absent n (omega (arith, kept.counted));
+    }

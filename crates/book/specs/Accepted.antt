@@ -10,6 +10,8 @@ use Rattle.record.specs.Layout.{record_at}
 use Rattle.record.specs.declared.refusal.Refusal as answered
 use Rattle.book.specs.Lists.{All, up_to}
 use Rattle.book.specs.Shape.{children}
+use Rattle.book.specs.Blocks.{record_count}
+use Rattle.book.specs.Blocks as blocks
 use Rattle.book.specs.Refusal.{Refusal, first_refusal}
 pub use Rattle.book.specs.Answer.{named, refused_by}
 use Rattle.book.specs.Answer.{Answer, accepted, refused, read_book}
@@ -33,9 +35,17 @@ blank = record { kind = 0; sub = 0; a = 0; b = 0; c = 0; v = 0; span = record { 
 unfoldable pub book_in : List ℕ → ℕ → Bool → Book
 book_in bytes count wildcards = record { records = map (record_at bytes) (up_to count); wildcards = wildcards }
 
--- what the code keeps of a book: some bytes, how many records it has, and whether there are wildcard imports. These make
--- the book that is read from bytes which are readable as a whole; past the last record what is kept reads as none
+-- what reading keeps of the bytes of a book: how many records it has, and whether there are wildcard imports; past the
+-- last record its bytes read as none
 pub record Kept (bytes : List ℕ) (count : ℕ) (wildcards : Bool) : Type 0 where
+  pub readable : Readable bytes
+  pub counted : count ≡ record_count bytes
+  pub wild : wildcards ≡ blocks.wildcards bytes
+  pub absent : (n : ℕ) → record_count bytes ≤ n → record_at bytes n ≡ blank
+
+-- what the code holds of a book: some bytes, how many records it has, and whether there are wildcard imports. These make
+-- the book that is read from bytes which are readable as a whole; past the last record what is held reads as none
+pub record Held (bytes : List ℕ) (count : ℕ) (wildcards : Bool) : Type 0 where
   pub whole : List ℕ
   pub readable : Readable whole
   pub same : book_in bytes count wildcards ≡ read whole

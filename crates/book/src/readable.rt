@@ -5,7 +5,7 @@ ghost use Rattle.record.specs.Kind.{kind_from};
 ghost use Rattle.book.specs.Blocks.{record_count, wildcards};
 ghost use Rattle.book.specs.Trees.{Readable};
 ghost use Rattle.book.specs.Outline.{read, ◌!◌};
-ghost use Rattle.book.specs.Accepted.{book_of, IsRead, Earlier};
+ghost use Rattle.book.specs.Accepted.{book_of, Kept, IsRead, Earlier};
 
 use crate::blocks::Blocks;
 use crate::scan;
@@ -25,13 +25,13 @@ pub struct Book<'a> {
 
 impl<'a> Model for Book<'a> {
     ghost use Rattle.book.specs.Outline.{Book};
-    ghost use Rattle.book.specs.Accepted.{book_in, Kept};
+    ghost use Rattle.book.specs.Accepted.{book_in, Held};
 
     ghost Value = { Book };
 
     ghost view = { λ b. book_in b.bytes.now b.count b.wildcards };
 
-    ghost invariant = { λ b. Kept b.bytes.now b.count b.wildcards };
+    ghost invariant = { λ b. Held b.bytes.now b.count b.wildcards };
 }
 
 // How many records stand in readable bytes: every block but the last has as many as fit.
@@ -67,6 +67,7 @@ impl<'a> Book<'a> {
     pub fn read(bytes: &'a [u8]) -> Result<Book<'a>, Refusal>
         ensures answer { result ≡ book_of bytes.entry.now }
         ensures readable { IfOk result (λ _. Readable bytes.entry.now) }
+        ensures kept { IfOk result (λ book. Kept bytes.entry.now (length book.records) book.wildcards) }
     {
         let blocks = Blocks::of(bytes)?;
         blocks.check()?;
@@ -130,5 +131,39 @@ impl<'a> Book<'a> {
         ensures { IsRead self.now }
     {
         let _ = &self.count;
+    }
+}
+
+#[cfg(test)]
+mod tests {
+    use super::*;
+    use record::refusal::Cause;
+    use std::test::Fail;
+
+    #[test]
+    fn read(rt: HostRuntime) -> Result<(), Fail> {
+        let mut bytes = [0u8; BLOCK_BYTES];
+        bytes[2] = 1;
+        bytes[4] = 1;
+        bytes[5] = 1;
+        bytes[510] = 0xFD;
+        bytes[511] = 0xFE;
+        let book = Book::read(&bytes)?;
+        assert_eq!(rt; book.len(), 1);
+        assert!(rt; !book.wildcards());
+        assert_eq!(rt; book.record(0), Record::bare(Kind::Primitive, 1, 0, 0, 0));
+        assert_eq!(rt; book.record(1), Record::bare_by_code(0, 0, 0, 0, 0));
+        // A byte behind the last record, under its check.
+        bytes[30] = 1;
+        bytes[510] = 0xFC;
+        let refused = Book::read(&bytes).map(|book| book.len());
+        assert_eq!(rt;
+            refused,
+            Err(Refusal {
+                cause: Cause::Block,
+                place: 0
+            })
+        );
+        Ok(())
     }
 }

@@ -1,13 +1,15 @@
 -- `book::readable::Book::read` meets its contract: the length, then the blocks, then the records, each by a law of
 -- proofs/Answers.antt.
 -- Assumes nothing.
-use Rattle.std.proofs.Common.{refl, ap, subst, ◌∙◌, ◌≤◌, ℕ}
+use Rattle.std.proofs.Common.{refl, sym, ap, ◌∙◌}
 use Rattle.std.specs.Prelude.{Ok}
 use Rattle.std.proofs.lemmas.Result.{err_from_is_err_and}
 use Rattle.book.specs.Answer.{outcome}
-use Rattle.book.proofs.Accepted.{accepted_is_readable}
-use Rattle.book.proofs.Answers.{by_length, book_refused, refused_in_blocks, refused_in_records, counted_at, none_refused, none_there, book_read}
-use Rattle.book.proofs.Cuts.{whole_same}
+use Rattle.book.specs.Accepted.{book_in}
+use Rattle.book.proofs.Accepted.{accepted_is_readable, kept_of}
+use Rattle.book.proofs.Answers.{by_length, book_refused, refused_in_blocks, refused_in_records, counted_at, none_refused, book_read}
+use Rattle.book.proofs.Below.{counted_in}
+use Rattle.book.proofs.Cuts.{whole_same, whole_held}
 use Rattle.book.proofs.readable.Book.read.Goals as goal
 
 pub returns-in_err-blocks-clause-answer : goal.returns-in_err-blocks-clause-answer
@@ -38,14 +40,10 @@ returns-in_err-check_records-clause-answer c =
 pub invariant_of-result : goal.invariant_of-result
 invariant_of-result c =
     let (same, right) = c.in_ok-blocks.ensures.right in
-    let passed = rw same at c.in_ok-check.ensures in
     let counted = rw same at c.record_count-count.ensures in
-    record {
-      whole = c.args.bytes.now;
-      readable = accepted_is_readable c.args.bytes.now (none_refused c.args.bytes.now right passed counted c.in_ok-check_records.ensures);
-      same = whole_same c.args.bytes.now counted (rw same at c.wildcards.ensures);
-      absent = λ n past. none_there c.args.bytes.now right passed n (subst (λ (m : ℕ). m ≤ n) counted past);
-    }
+    whole_held
+    (kept_of c.args.bytes.now (none_refused c.args.bytes.now right (rw same at c.in_ok-check.ensures) counted c.in_ok-check_records.ensures)
+    counted (rw same at c.wildcards.ensures))
 
 pub returns-clause-answer : goal.returns-clause-answer
 returns-clause-answer c =
@@ -59,3 +57,11 @@ returns-clause-readable c =
     let (same, right) = c.in_ok-blocks.ensures.right in
     accepted_is_readable c.args.bytes.now
     (none_refused c.args.bytes.now right (rw same at c.in_ok-check.ensures) (rw same at c.record_count-count.ensures) c.in_ok-check_records.ensures)
+
+pub returns-clause-kept : goal.returns-clause-kept
+unfolding book_in
+returns-clause-kept c =
+    let (same, right) = c.in_ok-blocks.ensures.right in
+    let counted = rw same at c.record_count-count.ensures in
+    kept_of c.args.bytes.now (none_refused c.args.bytes.now right (rw same at c.in_ok-check.ensures) counted c.in_ok-check_records.ensures)
+    (sym (counted_in c.args.bytes.now c.record_count-count.result c.wildcards.result) ∙ counted) (rw same at c.wildcards.ensures)
