@@ -142,6 +142,7 @@ mod tests {
 
     #[test]
     fn read(rt: HostRuntime) -> Result<(), Fail> {
+        // One block with one record, a primitive type, and the block's check behind them.
         let mut bytes = [0u8; BLOCK_BYTES];
         bytes[2] = 1;
         bytes[4] = 1;
